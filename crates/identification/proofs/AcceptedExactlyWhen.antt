@@ -1,0 +1,168 @@
+-- A section 1 is accepted exactly when it follows a template and keeps the value rules; what is read out are then the values of
+-- that template's fields.
+-- Assumes nothing.
+use Prim.Native.Nat.{ℕ, zero, suc, _+_, _≤_}
+use native.Mathlib.Omega.{arith}
+use mathlib.Core.Path.{_≡_, refl, ap, sym, _∙_}
+use mathlib.Core.Logic.{_↔_}
+use mathlib.Core.List.{List, [], _∷_}
+use mathlib.Core.Bool.{Bool, true, false, cond}
+use lib.ListN.{length}
+use lib.Dec.{ltb, eqb}
+use borrow.Author.Tests.{le-ltb, ltb-false, eq-eqb, ne-eqb, eqb-false}
+use Rattle.octets.specs.Octets.{beAt}
+use Rattle.layout.specs.Fields.{Value, after, placed, AllAllowed}
+use Rattle.layout.specs.Outcomes.{Outcome, read, firstOf, headReasons}
+use Rattle.layout.specs.Time.{time}
+use Rattle.layout.proofs.Blocks.{bad-none, none-bad}
+use Rattle.layout.proofs.Outcomes.{NoneHold, read-none, none-last}
+use Rattle.layout.proofs.Ranges.{between-in, in-between, test-differs, differs-test, test-same, same-test}
+use Rattle.identification.specs.Section1.{fields₁, origin, statusAndType, templateFields, total, values₁, templateReasons, asTemplate, byNumber, byTemplate, lengthReasons, outcome₁}
+use Rattle.identification.specs.Accepted.{Names, OffsetPresent, Follows₁}
+use Rattle.identification.specs.declared.Template.{Template}
+use Rattle.identification.specs.declared.Template.the-variants.{None as noTemplate, Calendar, Offset, CalendarAndOffset}
+
+-- the offset's rule is that of the fields from octet 22 on
+offset-in : (template : Template) (s : List ℕ) → AllAllowed (placed 0 22 (templateFields template)) s → OffsetPresent template s
+unfolding AllAllowed placed
+offset-in noTemplate s h = tt
+offset-in Calendar s h = tt
+offset-in Offset s h = test-differs _ _ (h .1 .1 .0)
+offset-in CalendarAndOffset s h = test-differs _ _ (h .1 .1 .0)
+
+in-offset : (template : Template) (s : List ℕ) → OffsetPresent template s → AllAllowed (placed 0 22 (templateFields template)) s
+unfolding AllAllowed placed
+in-offset noTemplate s h = (refl, (refl, (refl, tt)))
+in-offset Calendar s h = (refl, (refl, (refl, tt)))
+in-offset Offset s h = (refl, (refl, (differs-test _ _ h, tt)))
+in-offset CalendarAndOffset s h = (refl, (refl, (differs-test _ _ h, tt)))
+
+-- ---- accepted, so it follows
+
+-- the template by which a section is read
+template-of : (s : List ℕ) (vs : List Value) → byTemplate s ≡ read vs → (template : Template) × Names template s × (asTemplate template s ≡ read vs)
+unfolding byTemplate byNumber
+template-of s vs e = by-length (eqb (length s) 21) e
+  where
+    by-number : (n : ℕ) → beAt s 22 2 ≡ n → byNumber n s ≡ read vs → (template : Template) × Names template s × (asTemplate template s ≡ read vs)
+    by-number zero h e = (Calendar, h, e)
+    by-number (suc zero) h e = (Offset, h, e)
+    by-number (suc (suc zero)) h e = (CalendarAndOffset, h, e)
+    by-number (suc (suc (suc n))) h e = let z : _≡_ {A = ℕ} 0 1 = cc in absurd (omega arith)
+
+    by-length : (t : Bool) → cond t (asTemplate noTemplate s) (byNumber (beAt s 22 2) s) ≡ read vs → (template : Template) × Names template s × (asTemplate template s ≡ read vs)
+    by-length true e = (noTemplate, tt, e)
+    by-length false e = by-number (beAt s 22 2) refl e
+
+pub accepted-follows : (s : List ℕ) (vs : List Value) → outcome₁ s ≡ read vs → (template : Template) × Follows₁ template s × (vs ≡ values₁ template s)
+unfolding outcome₁ asTemplate NoneHold AllAllowed placed fields₁ origin time statusAndType
+accepted-follows s vs e =
+    let head = read-none 1 (headReasons 1 s) _ vs e in
+    let by = template-of s vs (read-none 1 (lengthReasons s) _ vs (head .1) .1) in
+    let template = by .0 in
+    let rest = read-none 1 (templateReasons template s) (read (values₁ template s)) vs (by .2) in
+    let fine = bad-none 0 1 (fields₁ template) s (omega arith) (test-same _ _ (rest .0 .1 .0)) in
+    let date = fine .1 .1 .1 .1 .1 .1 .1 in (
+      template,
+      record {
+        small = ltb-false _ _ (head .0 .1 .0);
+        whole = test-same _ _ (rest .0 .1 .1 .0);
+        says-length = test-same _ _ (head .0 .1 .1 .0);
+        says-number = test-same _ _ (head .0 .1 .1 .1 .0);
+        names = by .1;
+        year = test-differs _ _ (date .0);
+        month = between-in _ _ _ (date .1 .0);
+        day = between-in _ _ _ (date .1 .1 .0);
+        hour = between-in _ _ _ (date .1 .1 .1 .0) .1;
+        minute = between-in _ _ _ (date .1 .1 .1 .1 .0) .1;
+        second = between-in _ _ _ (date .1 .1 .1 .1 .1 .0) .1;
+        offset = offset-in template s (date .1 .1 .1 .1 .1 .1 .1 .1);
+      },
+      cc,
+    )
+
+-- ---- it follows, so it is accepted
+
+total-enough : (template : Template) → 21 ≤ total template
+total-enough noTemplate = omega arith
+total-enough Calendar = omega arith
+total-enough Offset = omega arith
+total-enough CalendarAndOffset = omega arith
+
+total-not-22 : (template : Template) → total template ≡ 22 → ⊥
+total-not-22 noTemplate e = eqb-false 21 22 refl e
+total-not-22 Calendar e = eqb-false 24 22 refl e
+total-not-22 Offset e = eqb-false 25 22 refl e
+total-not-22 CalendarAndOffset e = eqb-false 26 22 refl e
+
+template-named : (template : Template) (s : List ℕ) → length s ≡ total template → Names template s → byTemplate s ≡ asTemplate template s
+unfolding byTemplate byNumber
+template-named noTemplate s l n = rw l
+template-named Calendar s l n = rw (l, n)
+template-named Offset s l n = rw (l, n)
+template-named CalendarAndOffset s l n = rw (l, n)
+
+pub follows-accepted : (template : Template) (s : List ℕ) → Follows₁ template s → outcome₁ s ≡ read (values₁ template s)
+unfolding outcome₁ asTemplate NoneHold AllAllowed placed fields₁ origin time statusAndType
+follows-accepted template s f =
+    let l = f .whole in
+    let long : 21 ≤ length s = omega (arith, total-enough template) in
+    let head = none-last 1 (headReasons 1 s) (firstOf 1 (lengthReasons s) (byTemplate s)) (
+      le-ltb (length s) 5 (omega arith),
+      (le-ltb _ _ (f .small), (same-test _ _ (f .says-length), (same-test _ _ (f .says-number), tt))),
+    ) in
+    let lengths = none-last 1 (lengthReasons s) (byTemplate s) (
+      le-ltb _ _ long,
+      (ne-eqb _ _ (λ e. total-not-22 template (sym l ∙ e)), tt),
+    ) in
+    let fine : AllAllowed (after 0 (fields₁ template)) s = (
+      refl,
+      (
+        refl,
+        (
+          refl,
+          (
+            refl,
+            (
+              refl,
+              (
+                refl,
+                (
+                  refl,
+                  (
+                    differs-test _ _ (f .year),
+                    (
+                      in-between 1 12 _ (f .month),
+                      (
+                        in-between 1 31 _ (f .day),
+                        (
+                          in-between 0 23 _ (omega arith, f .hour),
+                          (
+                            in-between 0 59 _ (omega arith, f .minute),
+                            (
+                              in-between 0 59 _ (omega arith, f .second),
+                              (refl, (refl, in-offset template s (f .offset))),
+                            ),
+                          ),
+                        ),
+                      ),
+                    ),
+                  ),
+                ),
+              ),
+            ),
+          ),
+        ),
+      ),
+    ) in
+    let rest = none-last 1 (templateReasons template s) (read (values₁ template s)) (
+      le-ltb (length s) (total template) (omega arith),
+      (same-test _ _ (none-bad _ s fine), (same-test _ _ l, tt)),
+    ) in
+    head ∙ lengths ∙ template-named template s l (f .names) ∙ rest
+
+pub accepted-exactly-when : (s : List ℕ) → ((vs : List Value) × (outcome₁ s ≡ read vs)) ↔ ((template : Template) × Follows₁ template s)
+accepted-exactly-when s = (
+  (λ a. let f = accepted-follows s (a .0) (a .1) in (f .0, f .1)),
+  (λ f. (values₁ (f .0) s, follows-accepted (f .0) s (f .1))),
+)

@@ -1,0 +1,109 @@
+-- Any two answers that `read`'s contract allows for a section are one answer.
+-- Assumes nothing.
+use Prim.Native.Nat.{ℕ}
+use mathlib.Core.Path.{_≡_, refl, ap, sym, _∙_}
+use mathlib.Core.List.{List}
+use lib.ListN.{getD}
+use lib.IntN.{natAbs}
+use Rattle.layout.specs.Fields.{Value, none, missing, is}
+use Rattle.layout.specs.Outcomes.{Outcome, refused, read}
+use Rattle.layout.specs.Time.{timeIn}
+use Rattle.layout.proofs.Untold.{int, nat}
+use Rattle.identification.specs.Section1.{told, valuesIn, numberIn, calendarIn, offsetIn, outcome₁}
+use Rattle.identification.specs.declared.TemplateNumber.{TemplateNumber}
+use Rattle.identification.specs.declared.TemplateNumber.the-variants.{None as noNumber, Is as isNumber}
+use Rattle.identification.specs.declared.CalendarCode.{CalendarCode}
+use Rattle.identification.specs.declared.CalendarCode.the-variants.{None as noCalendar, Is as isCalendar}
+use Rattle.identification.specs.declared.YearOffset.{YearOffset}
+use Rattle.identification.specs.declared.YearOffset.the-variants.{None as noOffset, Is as isOffset}
+use Rattle.identification.specs.declared.Answer.{Answer}
+use Rattle.identification.specs.declared.Answer.the-variants.{Read, Refused}
+
+-- ---- fields that a template may lack
+
+toNumber : Value → TemplateNumber
+toNumber none = noNumber
+toNumber missing = noNumber
+toNumber (is z) = isNumber (natAbs z)
+
+toCalendar : Value → CalendarCode
+toCalendar none = noCalendar
+toCalendar missing = noCalendar
+toCalendar (is z) = isCalendar (natAbs z)
+
+toOffset : Value → YearOffset
+toOffset none = noOffset
+toOffset missing = noOffset
+toOffset (is z) = isOffset z
+
+number-back : (x : TemplateNumber) → toNumber (numberIn x) ≡ x
+unfolding toNumber
+number-back noNumber = refl
+number-back (isNumber n) = refl
+
+calendar-back : (x : CalendarCode) → toCalendar (calendarIn x) ≡ x
+unfolding toCalendar
+calendar-back noCalendar = refl
+calendar-back (isCalendar n) = refl
+
+offset-back : (x : YearOffset) → toOffset (offsetIn x) ≡ x
+unfolding toOffset
+offset-back noOffset = refl
+offset-back (isOffset z) = refl
+
+-- ---- the answer that an outcome is of
+
+untold : Outcome → Answer
+untold (refused n s p) = Refused (record { number = n; section = s; place = p })
+untold (read vs) =
+    Read
+    (record {
+      length = nat (getD vs 0 none);
+      number = nat (getD vs 1 none);
+      centre = nat (getD vs 2 none);
+      «sub_centre» = nat (getD vs 3 none);
+      «master_version» = nat (getD vs 4 none);
+      «local_version» = nat (getD vs 5 none);
+      significance = nat (getD vs 6 none);
+      year = int (getD vs 7 none);
+      time =
+          record {
+            month = nat (getD vs 8 none);
+            day = nat (getD vs 9 none);
+            hour = nat (getD vs 10 none);
+            minute = nat (getD vs 11 none);
+            second = nat (getD vs 12 none);
+          };
+      status = nat (getD vs 13 none);
+      «data_type» = nat (getD vs 14 none);
+      template = toNumber (getD vs 15 none);
+      calendar = toCalendar (getD vs 16 none);
+      offset = toOffset (getD vs 17 none);
+      «real_year» = int (getD vs 18 none);
+    })
+
+back : (a : Answer) → untold (told a) ≡ a
+unfolding untold told valuesIn timeIn
+back (Refused x) = refl
+back (Read x) =
+    λ i. Read
+    (record {
+      length = x .length;
+      number = x .number;
+      centre = x .centre;
+      «sub_centre» = x .«sub_centre»;
+      «master_version» = x .«master_version»;
+      «local_version» = x .«local_version»;
+      significance = x .significance;
+      year = x .year;
+      time = x .time;
+      status = x .status;
+      «data_type» = x .«data_type»;
+      template = number-back (x .template) i;
+      calendar = calendar-back (x .calendar) i;
+      offset = offset-back (x .offset) i;
+      «real_year» = x .«real_year»;
+    })
+
+pub determined : (s : List ℕ) (a b : Answer) → told a ≡ outcome₁ s → told b ≡ outcome₁ s → a ≡ b
+determined s a b p q = sym (back a) ∙ ap untold (p ∙ sym q) ∙ back b

@@ -1,0 +1,4 @@
+pub mod AcceptedExactlyWhen
+pub mod FieldsCoverOnce
+pub mod AnswersDetermined
+pub mod StarredYears

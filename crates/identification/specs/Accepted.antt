@@ -1,0 +1,38 @@
+-- What it means that a section 1 follows its template and keeps the value rules, in plain words.
+-- Assumes nothing.
+use Prim.Native.Nat.{ℕ, _≤_}
+use mathlib.Core.Path.{_≡_}
+use mathlib.Core.List.{List}
+use lib.ListN.{length}
+use Rattle.octets.specs.Octets.{beAt}
+use Rattle.identification.specs.Section1.{total}
+use Rattle.identification.specs.declared.Template.{Template}
+use Rattle.identification.specs.declared.Template.the-variants.{None as noTemplate, Calendar, Offset, CalendarAndOffset}
+
+-- octets 22-23 name the template
+abbrev pub Names : Template → List ℕ → Type 0
+Names noTemplate s = Unit {0}
+Names Calendar s = beAt s 22 2 ≡ 0
+Names Offset s = beAt s 22 2 ≡ 1
+Names CalendarAndOffset s = beAt s 22 2 ≡ 2
+
+-- the offset, where there is one, is not missing
+abbrev pub OffsetPresent : Template → List ℕ → Type 0
+OffsetPresent noTemplate s = Unit {0}
+OffsetPresent Calendar s = Unit {0}
+OffsetPresent Offset s = beAt s 24 2 ≡ 0xffff → ⊥
+OffsetPresent CalendarAndOffset s = beAt s 25 2 ≡ 0xffff → ⊥
+
+pub record Follows₁ (template : Template) (s : List ℕ) : Type 0 where
+  pub small : length s ≤ 65536
+  pub whole : length s ≡ total template
+  pub says-length : beAt s 1 4 ≡ length s
+  pub says-number : beAt s 5 1 ≡ 1
+  pub names : Names template s
+  pub year : beAt s 13 2 ≡ 0xffff → ⊥
+  pub month : (1 ≤ beAt s 15 1) × (beAt s 15 1 ≤ 12)
+  pub day : (1 ≤ beAt s 16 1) × (beAt s 16 1 ≤ 31)
+  pub hour : beAt s 17 1 ≤ 23
+  pub minute : beAt s 18 1 ≤ 59
+  pub second : beAt s 19 1 ≤ 59
+  pub offset : OffsetPresent template s

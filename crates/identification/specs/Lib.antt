@@ -1,0 +1,3 @@
+pub mod Section1
+pub mod Accepted
+pub mod Examples

@@ -1,0 +1,102 @@
+-- The laws of fields that follow one another, for every list of fields and wherever it starts.
+-- Assumes nothing.
+use mathlib.Core.Path.{_≡_, refl, ap, sym, _∙_}
+use mathlib.Core.List.{List, [], _∷_, _++_, append-assoc}
+use mathlib.Core.Bool.{Bool, true, false, cond}
+use Prim.Native.Nat.{ℕ, _+_, _≤_}
+use native.Mathlib.Nat.{zero-add, add-zero, add-assoc, add-comm}
+use native.Mathlib.Omega.{arith}
+use lib.ListN.{length, drop}
+use Rattle.octets.specs.Octets.{beAt, part}
+use Rattle.octets.proofs.Laws.{part-add, part-all, beAt-drop}
+use Rattle.layout.specs.Fields.{Value, Field, FieldAt, width, allowed, reads, widthOf, placed, after, rawAt, lowestBad, badPlace, valuesOf, octetsOf, AllAllowed}
+
+pub width-append : (a b : List Field) → widthOf (a ++ b) ≡ widthOf a + widthOf b
+unfolding widthOf
+width-append [] b = omega arith
+width-append (f ∷ fs) b = omega (arith, width-append fs b)
+
+-- ---- where fields stand
+
+-- one run of fields and then another
+placed-append : (end k : ℕ) (a b : List Field) → placed end k (a ++ b) ≡ placed end k a ++ placed end (k + widthOf a) b
+unfolding placed widthOf
+placed-append end k [] b = rw add-zero
+placed-append end k (f ∷ fs) b = rw (← add-assoc) (ap (λ (l : List FieldAt). record { at = end + k; field = f } ∷ l) (placed-append end (k + width f) fs b))
+
+-- counted from a later octet
+placed-shift : (end j k : ℕ) (fs : List Field) → placed (end + j) k fs ≡ placed end (j + k) fs
+unfolding placed
+placed-shift end j k [] = refl
+placed-shift end j k (f ∷ fs) =
+    rw (add-assoc end j k, placed-shift end j (k + width f) fs, add-assoc j k (width f))
+
+-- two runs that meet: the second follows the octet at which the first ends
+pub after-append : (end : ℕ) (a b : List Field) → after end (a ++ b) ≡ after end a ++ after (end + widthOf a) b
+after-append end a b = rw (placed-append, placed-shift, add-comm 1 (widthOf a))
+
+-- ---- what they say
+
+pub values-append : (a b : List FieldAt) (s : List ℕ) → valuesOf (a ++ b) s ≡ valuesOf a s ++ valuesOf b s
+unfolding valuesOf
+values-append [] b s = refl
+values-append (p ∷ ps) b s = rw (append-assoc, values-append ps b s)
+
+pub bad-append : (a b : List FieldAt) (s : List ℕ) (later : ℕ) → lowestBad (a ++ b) s later ≡ lowestBad a s (lowestBad b s later)
+unfolding lowestBad
+bad-append [] b s later = refl
+bad-append (p ∷ ps) b s later = rw (bad-append ps b s later)
+
+-- blocks one after the other
+pub values-meet : (end : ℕ) (a b : List Field) (s : List ℕ) → valuesOf (after end (a ++ b)) s ≡ valuesOf (after end a) s ++ valuesOf (after (end + widthOf a) b) s
+values-meet end a b s = rw (after-append, values-append)
+
+pub bad-meet : (end : ℕ) (a b : List Field) (s : List ℕ) (later : ℕ) → lowestBad (after end (a ++ b)) s later ≡ lowestBad (after end a) s (lowestBad (after (end + widthOf a) b) s later)
+bad-meet end a b s later = rw (after-append, bad-append)
+
+-- ---- they cover the octets
+
+-- the fields' octets, one after the other, are the octets from where they start: none is left out and none is in two
+octets-from : (end k : ℕ) (fs : List Field) (s : List ℕ) → octetsOf (placed end k fs) s ≡ part s (end + k) (widthOf fs)
+unfolding octetsOf placed widthOf part
+octets-from end k [] s = refl
+octets-from end k (f ∷ fs) s = rw (octets-from end (k + width f) fs s, part-add, add-assoc)
+
+-- and those of a section as long as its fields are the whole section
+pub covers : (fs : List Field) (s : List ℕ) → length s ≡ widthOf fs → octetsOf (after 0 fs) s ≡ s
+covers fs s e = octets-from 0 1 fs s ∙ ap (part s 1) (sym e) ∙ part-all s
+
+-- ---- no field is out of its range
+
+pub bad-none : (end k : ℕ) (fs : List Field) (s : List ℕ) → 1 ≤ k → badPlace (placed end k fs) s ≡ 0 → AllAllowed (placed end k fs) s
+unfolding lowestBad AllAllowed placed
+bad-none end k [] s h e = tt
+bad-none end k (f ∷ fs) s h e = by-cases (allowed f (beAt s (end + k) (width f))) refl e (bad-none end (k + width f) fs s (omega arith))
+  where
+    by-cases : (t : Bool) → allowed f (beAt s (end + k) (width f)) ≡ t → cond t (lowestBad (placed end (k + width f) fs) s 0) (end + k) ≡ 0 → (badPlace (placed end (k + width f) fs) s ≡ 0 → AllAllowed (placed end (k + width f) fs) s) → (allowed f (beAt s (end + k) (width f)) ≡ true) × AllAllowed (placed end (k + width f) fs) s
+    by-cases true q e rest = (q, rest e)
+    by-cases false q e rest = absurd (omega arith)
+
+pub none-bad : (ps : List FieldAt) (s : List ℕ) → AllAllowed ps s → badPlace ps s ≡ 0
+unfolding lowestBad AllAllowed
+none-bad [] s h = refl
+none-bad (p ∷ ps) s h = rw (h .0) (none-bad ps s (h .1))
+
+-- a block that follows an octet after `end`, as it stands in a run that follows `end`
+pub moved : (end j : ℕ) (fs : List Field) (s : List ℕ) → valuesOf (after (end + j) fs) s ≡ valuesOf (placed end (j + 1) fs) s
+moved end j fs s = rw placed-shift
+
+-- fields of a part that starts in the middle of the section
+values-dropped : (end j k : ℕ) (fs : List Field) (s : List ℕ) → 1 ≤ k → valuesOf (placed end k fs) (drop j s) ≡ valuesOf (placed (end + j) k fs) s
+unfolding valuesOf placed
+values-dropped end j k [] s h = refl
+values-dropped end j k (f ∷ fs) s h =
+    let e : end + k + j ≡ end + j + k = omega arith in
+    let here : beAt (drop j s) (end + k) (width f) ≡ beAt s (end + j + k) (width f) =
+    beAt-drop s j (end + k) (width f) (omega arith) ∙ ap (λ (n : ℕ). beAt s n (width f)) e
+    in
+    let rest = values-dropped end j (k + width f) fs s (omega arith) in
+    λ i. reads f (here i) ++ rest i
+
+pub values-drop : (end j : ℕ) (fs : List Field) (s : List ℕ) → valuesOf (after end fs) (drop j s) ≡ valuesOf (after (end + j) fs) s
+values-drop end j fs s = values-dropped end j 1 fs s (omega arith)

@@ -1,0 +1,61 @@
+-- From a value back to the number of a record that says it: with these an outcome shows the whole answer.
+-- Assumes nothing.
+use mathlib.Core.Path.{_≡_, refl}
+use Prim.Native.Nat.{ℕ}
+use lib.IntN.{ℤ, pos, natAbs}
+use Rattle.layout.specs.Fields.{Value, none, missing, is}
+use Rattle.layout.specs.Missing.{in8, in16, in32, inSigned}
+use Rattle.layout.specs.declared.U8OrMissing.{U8OrMissing}
+use Rattle.layout.specs.declared.U8OrMissing.the-variants.{Missing as no8, Is as is8}
+use Rattle.layout.specs.declared.U16OrMissing.{U16OrMissing}
+use Rattle.layout.specs.declared.U16OrMissing.the-variants.{Missing as no16, Is as is16}
+use Rattle.layout.specs.declared.U32OrMissing.{U32OrMissing}
+use Rattle.layout.specs.declared.U32OrMissing.the-variants.{Missing as no32, Is as is32}
+use Rattle.layout.specs.declared.I32OrMissing.{I32OrMissing}
+use Rattle.layout.specs.declared.I32OrMissing.the-variants.{Missing as noSigned, Is as isSigned}
+
+-- a signed number, and one that is not
+abbrev pub int : Value → ℤ
+int none = pos 0
+int missing = pos 0
+int (is z) = z
+
+abbrev pub nat : Value → ℕ
+nat v = natAbs (int v)
+
+-- one that may be missing
+abbrev pub to8 : Value → U8OrMissing
+to8 none = no8
+to8 missing = no8
+to8 (is z) = is8 (natAbs z)
+
+pub back8 : (x : U8OrMissing) → to8 (in8 x) ≡ x
+back8 no8 = refl
+back8 (is8 n) = refl
+
+abbrev pub to16 : Value → U16OrMissing
+to16 none = no16
+to16 missing = no16
+to16 (is z) = is16 (natAbs z)
+
+pub back16 : (x : U16OrMissing) → to16 (in16 x) ≡ x
+back16 no16 = refl
+back16 (is16 n) = refl
+
+abbrev pub to32 : Value → U32OrMissing
+to32 none = no32
+to32 missing = no32
+to32 (is z) = is32 (natAbs z)
+
+pub back32 : (x : U32OrMissing) → to32 (in32 x) ≡ x
+back32 no32 = refl
+back32 (is32 n) = refl
+
+abbrev pub toSigned : Value → I32OrMissing
+toSigned none = noSigned
+toSigned missing = noSigned
+toSigned (is z) = isSigned z
+
+pub backSigned : (x : I32OrMissing) → toSigned (inSigned x) ≡ x
+backSigned noSigned = refl
+backSigned (isSigned z) = refl

@@ -1,0 +1,13 @@
+use Rattle.octets.proofs.Free.{free}
+use borrow.Author.Tests.{eq-eqb, ne-eqb}
+use Rattle.layout.proofs.u8_or_missing.Statement.{statement}
+use Rattle.layout.proofs.u8_or_missing.Tie as tie
+
+returns : tie.Need-returns
+returns c = simp (← c .before .u8-at .ensures, eq-eqb _ _ (c .if1 .taken))
+
+returns-2 : tie.Need-returns-2
+returns-2 c = simp (← c .before .u8-at .ensures, ne-eqb _ _ (c .if1 .left))
+
+pub u8-or-missing-spec : {M : Type 1} → statement M
+u8-or-missing-spec = tie.close (tie.spec free returns returns-2)

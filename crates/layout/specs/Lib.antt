@@ -1,0 +1,5 @@
+pub mod Fields
+pub mod Outcomes
+pub mod Missing
+pub mod Time
+pub mod Examples

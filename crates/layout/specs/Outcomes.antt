@@ -1,0 +1,52 @@
+-- What a reader answers: a refusal, by the first reason that holds, or what was read.
+-- Assumes nothing.
+use Prim.Native.Nat.{ℕ}
+use mathlib.Core.List.{List, [], _∷_}
+use mathlib.Core.Bool.{Bool, not, cond}
+use lib.ListN.{length}
+use lib.Dec.{ltb, eqb}
+use Rattle.octets.specs.Octets.{beAt}
+use Rattle.layout.specs.Fields.{Value}
+use Rattle.layout.specs.declared.Refusal.{Refusal}
+
+-- a refusal's number, section and place, or the values of a record
+pub data Outcome : Type 0 where
+  refused : ℕ → ℕ → ℕ → Outcome
+  read : List Value → Outcome
+
+-- what a program's refusal says
+abbrev pub refusedBy : Refusal → Outcome
+refusedBy x = refused (x .number) (x .section) (x .place)
+
+-- a reason to refuse a section: whether it holds, its number, its place
+pub record Reason : Type 0 where
+  pub holds : Bool
+  pub number : ℕ
+  pub place : ℕ
+
+-- a reason of no place
+abbrev pub reason : ℕ → Bool → Reason
+reason number holds = record { holds = holds; number = number; place = 0 }
+
+-- 8: a field out of its range stands at this place; 0 says that there is none
+abbrev pub badField : ℕ → Reason
+badField place = record { holds = not (eqb place 0); number = 8; place = place }
+
+-- the first reason that holds decides, and if none does the answer is the last one
+unfoldable pub firstOf : ℕ → List Reason → Outcome → Outcome
+firstOf section [] o = o
+firstOf section (r ∷ rs) o = cond (r .holds) (refused (r .number) section (r .place)) (firstOf section rs o)
+
+-- the number of the first reason that holds, and 0 if none does
+unfoldable pub firstNumber : List Reason → ℕ
+firstNumber [] = 0
+firstNumber (r ∷ rs) = cond (r .holds) (r .number) (firstNumber rs)
+
+-- 1 to 4, which every section has: under 5 octets, above 65,536, octets 1-4 differ from the lent length, wrong number
+abbrev pub headReasons : ℕ → List ℕ → List Reason
+headReasons section s =
+    reason 1 (ltb (length s) 5)
+    ∷ reason 2 (ltb 65536 (length s))
+    ∷ reason 3 (not (eqb (beAt s 1 4) (length s)))
+    ∷ reason 4 (not (eqb (beAt s 5 1) section))
+    ∷ []

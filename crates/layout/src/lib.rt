@@ -1,0 +1,199 @@
+// What the readers of sections share: refusals and their first four numbers, places of fields out of their range, numbers
+// that may be missing, and the time that stands in two sections. Octets are counted from 1; `end` is the octet after which
+// a block of fields stands. Every function takes every input.
+ghost use mathlib.Core.Path.{_≡_};
+ghost use mathlib.Core.Bool.{cond};
+ghost use Rattle.octets.specs.Octets.{beAt};
+ghost use Rattle.layout.specs.Fields.{between, notOnes, notZero, means, unsigned, signed, orMissing, after, valuesOf, lowestBad};
+ghost use Rattle.layout.specs.Outcomes.{headReasons, firstNumber};
+ghost use Rattle.layout.specs.Missing.{in8, in16, in32, inSigned};
+ghost use Rattle.layout.specs.Time.{time, timeIn};
+
+// Why something was refused: document 01's number, the section asked for, and the place.
+pub struct Refusal {
+    pub number: u8,
+    pub section: u8,
+    pub place: usize,
+}
+
+// The number of the first of refusals 1 to 4 that a lent section meets, and 0 if it meets none.
+pub fn head_refusal(s: &[u8], section: u8) -> u8
+    ensures { λ r. ⌜ r ≡ firstNumber (headReasons section (now (s .entry))) ⌝ }
+{
+    if s.len() < 5 {
+        return 1;
+    }
+    if 65536 < s.len() {
+        return 2;
+    }
+    if octets::u32_at(s, 1) as usize != s.len() {
+        return 3;
+    }
+    if octets::u8_at(s, 5) != section {
+        return 4;
+    }
+    0
+}
+
+// ---- the lowest field out of its range: each answers `at` if its field is, and else `later`, the place that the fields
+// behind it have
+
+// An octet from `low` to `high`.
+pub fn octet_within(s: &[u8], at: usize, low: u8, high: u8, later: usize) -> usize
+    ensures { λ r. ⌜ r ≡ cond (between low high (beAt (now (s .entry)) at 1)) later at ⌝ }
+{
+    let x = octets::u8_at(s, at);
+    if x < low {
+        return at;
+    }
+    if high < x {
+        return at;
+    }
+    later
+}
+
+// Two octets that are not all ones.
+pub fn present16(s: &[u8], at: usize, later: usize) -> usize
+    ensures { λ r. ⌜ r ≡ cond (notOnes 2 (beAt (now (s .entry)) at 2)) later at ⌝ }
+{
+    if octets::u16_at(s, at) == 0xffff {
+        at
+    } else {
+        later
+    }
+}
+
+// Four octets that are not all ones.
+pub fn present32(s: &[u8], at: usize, later: usize) -> usize
+    ensures { λ r. ⌜ r ≡ cond (notOnes 4 (beAt (now (s .entry)) at 4)) later at ⌝ }
+{
+    if octets::u32_at(s, at) == 0xffff_ffff {
+        at
+    } else {
+        later
+    }
+}
+
+// Four octets that are not all zero.
+pub fn nonzero32(s: &[u8], at: usize, later: usize) -> usize
+    ensures { λ r. ⌜ r ≡ cond (notZero (beAt (now (s .entry)) at 4)) later at ⌝ }
+{
+    if octets::u32_at(s, at) == 0 {
+        at
+    } else {
+        later
+    }
+}
+
+// ---- numbers that may be missing
+
+pub enum U8OrMissing {
+    Missing,
+    Is(u8),
+}
+
+pub enum U16OrMissing {
+    Missing,
+    Is(u16),
+}
+
+pub enum U32OrMissing {
+    Missing,
+    Is(u32),
+}
+
+// A number by sign and magnitude, of whatever octet count.
+pub enum I32OrMissing {
+    Missing,
+    Is(i32),
+}
+
+pub fn u8_or_missing(s: &[u8], at: usize) -> U8OrMissing
+    ensures { λ r. ⌜ in8 r ≡ means (orMissing unsigned) 1 (beAt (now (s .entry)) at 1) ⌝ }
+{
+    let x = octets::u8_at(s, at);
+    if x == 0xff {
+        U8OrMissing::Missing
+    } else {
+        U8OrMissing::Is(x)
+    }
+}
+
+pub fn u16_or_missing(s: &[u8], at: usize) -> U16OrMissing
+    ensures { λ r. ⌜ in16 r ≡ means (orMissing unsigned) 2 (beAt (now (s .entry)) at 2) ⌝ }
+{
+    let x = octets::u16_at(s, at);
+    if x == 0xffff {
+        U16OrMissing::Missing
+    } else {
+        U16OrMissing::Is(x)
+    }
+}
+
+pub fn u32_or_missing(s: &[u8], at: usize) -> U32OrMissing
+    ensures { λ r. ⌜ in32 r ≡ means (orMissing unsigned) 4 (beAt (now (s .entry)) at 4) ⌝ }
+{
+    let x = octets::u32_at(s, at);
+    if x == 0xffff_ffff {
+        U32OrMissing::Missing
+    } else {
+        U32OrMissing::Is(x)
+    }
+}
+
+pub fn signed8_or_missing(s: &[u8], at: usize) -> I32OrMissing
+    ensures { λ r. ⌜ inSigned r ≡ means (orMissing signed) 1 (beAt (now (s .entry)) at 1) ⌝ }
+{
+    let x = octets::u8_at(s, at);
+    if x == 0xff {
+        I32OrMissing::Missing
+    } else {
+        I32OrMissing::Is(octets::signed8(x))
+    }
+}
+
+pub fn signed32_or_missing(s: &[u8], at: usize) -> I32OrMissing
+    ensures { λ r. ⌜ inSigned r ≡ means (orMissing signed) 4 (beAt (now (s .entry)) at 4) ⌝ }
+{
+    let x = octets::u32_at(s, at);
+    if x == 0xffff_ffff {
+        I32OrMissing::Missing
+    } else {
+        I32OrMissing::Is(octets::signed32(x))
+    }
+}
+
+// ---- the time that stands in sections 1 and 4, behind its year
+
+pub struct Time {
+    pub month: u8,
+    pub day: u8,
+    pub hour: u8,
+    pub minute: u8,
+    pub second: u8,
+}
+
+pub fn read_time(s: &[u8], end: u32) -> Time
+    ensures { λ r. ⌜ timeIn r ≡ valuesOf (after end time) (now (s .entry)) ⌝ }
+{
+    let before = end as usize;
+    Time {
+        month: octets::u8_at(s, before + 1),
+        day: octets::u8_at(s, before + 2),
+        hour: octets::u8_at(s, before + 3),
+        minute: octets::u8_at(s, before + 4),
+        second: octets::u8_at(s, before + 5),
+    }
+}
+
+// From the last of the five to the first, so that the lowest place stays.
+pub fn bad_time(s: &[u8], end: u32, later: usize) -> usize
+    ensures { λ r. ⌜ r ≡ lowestBad (after end time) (now (s .entry)) later ⌝ }
+{
+    let before = end as usize;
+    let second = octet_within(s, before + 5, 0, 59, later);
+    let minute = octet_within(s, before + 4, 0, 59, second);
+    let hour = octet_within(s, before + 3, 0, 23, minute);
+    let day = octet_within(s, before + 2, 1, 31, hour);
+    octet_within(s, before + 1, 1, 12, day)
+}
