@@ -1,0 +1,144 @@
+// Lines of text: octets in hexadecimal in, names and numbers out.
+ghost use Prim.Native.Nat.{_≤_};
+ghost use lib.ListN.{length};
+use layout::Refusal;
+
+// The index of the next `byte` from index `from` on, or the text's length.
+pub fn next(text: &[u8], from: usize, byte: u8) -> usize
+    ensures { λ r. ⌜ (r ≤ length (now (text .entry))) × (from ≤ length (now (text .entry)) → from ≤ r) ⌝ }
+{
+    let mut i = from;
+    while i < text.len() {
+        if text[i] == byte {
+            return i;
+        }
+        i += 1;
+    }
+    text.len()
+}
+
+// The section that a line says after its `from`th character, ` LENGTH OCTETS`, at the start of `out`; its length.
+pub fn section_of(line: &[u8], from: usize, out: &mut [u8]) -> usize
+    ensures { λ r. ⌜ r ≤ 70000 ⌝ }
+{
+    let gap = next(line, from, b' ');
+    if gap == line.len() {
+        return 0;
+    }
+    let start = gap + 1;
+    let end = next(line, start, b' ');
+    let size = decimal(&line[start..end]);
+    if end == line.len() {
+        return size;
+    }
+    let given = decode(&line[end + 1..], out);
+    if given == 0 {
+        return size;
+    }
+    let last = out[given - 1];
+    fill(out, given, size, last);
+    size
+}
+
+// A decimal number, as far as it is at most 70,000.
+fn decimal(word: &[u8]) -> usize
+    ensures { λ r. ⌜ r ≤ 70000 ⌝ }
+{
+    let mut value = 0;
+    let mut i = 0;
+    while i < word.len() {
+        let more = value * 10 + digit(word[i]) as usize;
+        if 70000 < more {
+            return value;
+        }
+        value = more;
+        i += 1;
+    }
+    value
+}
+
+// What a hexadecimal digit stands for, and 0 for anything else.
+fn digit(c: u8) -> u8
+    ensures { λ r. ⌜ r ≤ 15 ⌝ }
+{
+    if c < b'0' {
+        return 0;
+    }
+    if c <= b'9' {
+        return c - b'0';
+    }
+    if c < b'a' {
+        return 0;
+    }
+    if c <= b'f' {
+        return c - b'a' + 10;
+    }
+    0
+}
+
+// The octets of a text of pairs of digits, at the start of `out`, as many as it has room for.
+fn decode(text: &[u8], out: &mut [u8]) -> usize
+    ensures { λ r. ⌜ r ≤ length (now (out .exit)) ⌝ }
+{
+    let mut n = 0;
+    while n < text.len() / 2 {
+        if n == out.len() {
+            return n;
+        }
+        out[n] = digit(text[2 * n]) * 16 + digit(text[2 * n + 1]);
+        n += 1;
+    }
+    n
+}
+
+// Puts `octet` at the indices from `from` up to `end`.
+fn fill(out: &mut [u8], from: usize, end: usize, octet: u8) {
+    let mut i = from;
+    while i < end {
+        if out.len() <= i {
+            return;
+        }
+        out[i] = octet;
+        i += 1;
+    }
+}
+
+// ---- output
+
+pub fn text(words: &[u8]) {
+    io::write_all(libc::STDOUT_FILENO, words);
+}
+
+fn name(words: &[u8]) {
+    text(b" ");
+    text(words);
+    text(b" ");
+}
+
+pub fn number(words: &[u8], n: u64) {
+    name(words);
+    io::print_decimal(libc::STDOUT_FILENO, n);
+}
+
+pub fn signed(words: &[u8], z: i32) {
+    name(words);
+    let wide = z as i64;
+    if wide < 0 {
+        text(b"-");
+        io::print_decimal(libc::STDOUT_FILENO, (-wide) as u64);
+    } else {
+        io::print_decimal(libc::STDOUT_FILENO, wide as u64);
+    }
+}
+
+pub fn none(words: &[u8]) {
+    name(words);
+    text(b"none");
+}
+
+pub fn refusal(x: Refusal) {
+    text(b"refused");
+    number(b"number", x.number as u64);
+    number(b"section", x.section as u64);
+    number(b"place", x.place as u64);
+}
