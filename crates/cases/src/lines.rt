@@ -4,7 +4,7 @@ ghost use lib.ListN.{length};
 use layout::Refusal;
 
 // The index of the next `byte` from index `from` on, or the text's length.
-pub fn next(text: &[u8], from: usize, byte: u8) -> usize
+pub(crate) fn next(text: &[u8], from: usize, byte: u8) -> usize
     ensures { λ r. ⌜ (r ≤ length (now (text .entry))) × (from ≤ length (now (text .entry)) → from ≤ r) ⌝ }
 {
     let mut i = from;
@@ -18,7 +18,7 @@ pub fn next(text: &[u8], from: usize, byte: u8) -> usize
 }
 
 // The section that a line says after its `from`th character, ` LENGTH OCTETS`, at the start of `out`; its length.
-pub fn section_of(line: &[u8], from: usize, out: &mut [u8]) -> usize
+pub(crate) fn section_of(line: &[u8], from: usize, out: &mut [u8]) -> usize
     ensures { λ r. ⌜ r ≤ 70000 ⌝ }
 {
     let gap = next(line, from, b' ');
@@ -105,7 +105,7 @@ fn fill(out: &mut [u8], from: usize, end: usize, octet: u8) {
 
 // ---- output
 
-pub fn text(words: &[u8]) {
+pub(crate) fn text(words: &[u8]) {
     io::write_all(libc::STDOUT_FILENO, words);
 }
 
@@ -115,12 +115,12 @@ fn name(words: &[u8]) {
     text(b" ");
 }
 
-pub fn number(words: &[u8], n: u64) {
+pub(crate) fn number(words: &[u8], n: u64) {
     name(words);
     io::print_decimal(libc::STDOUT_FILENO, n);
 }
 
-pub fn signed(words: &[u8], z: i32) {
+pub(crate) fn signed(words: &[u8], z: i32) {
     name(words);
     let wide = z as i64;
     if wide < 0 {
@@ -131,12 +131,12 @@ pub fn signed(words: &[u8], z: i32) {
     }
 }
 
-pub fn none(words: &[u8]) {
+pub(crate) fn none(words: &[u8]) {
     name(words);
     text(b"none");
 }
 
-pub fn refusal(x: Refusal) {
+pub(crate) fn refusal(x: Refusal) {
     text(b"refused");
     number(b"number", x.number as u64);
     number(b"section", x.section as u64);

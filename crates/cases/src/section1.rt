@@ -7,7 +7,7 @@ use identification::TemplateNumber;
 use identification::YearOffset;
 use layout::Time;
 
-pub fn show(section: &[u8]) {
+pub(crate) fn show(section: &[u8]) {
     let answer = identification::read(section);
     match answer {
         Answer::Read(x) => {
@@ -37,7 +37,7 @@ fn show_origin(x: Identification) {
     lines::number(b"significance", x.significance as u64);
 }
 
-pub fn show_time(x: Time) {
+pub(crate) fn show_time(x: Time) {
     lines::number(b"month", x.month as u64);
     lines::number(b"day", x.day as u64);
     lines::number(b"hour", x.hour as u64);
