@@ -1,14 +1,14 @@
 -- Any two answers that `read`'s contract allows for a section are one answer.
 -- Assumes nothing.
 use Prim.Native.Nat.{ℕ}
-use mathlib.Core.Path.{_≡_, refl, ap, sym, _∙_}
+use mathlib.Core.Path.{_≡_, refl, sym, _∙_}
 use mathlib.Core.List.{List}
 use lib.ListN.{getD}
 use lib.IntN.{natAbs}
 use Rattle.layout.specs.Fields.{Value, none, missing, is}
 use Rattle.layout.specs.Outcomes.{Outcome, refused, read}
 use Rattle.layout.specs.Time.{timeIn}
-use Rattle.layout.proofs.Untold.{int, nat}
+use Rattle.layout.proofs.Untold.{int, nat, toTime, told-back}
 use Rattle.identification.specs.Section1.{told, valuesIn, numberIn, calendarIn, offsetIn, outcome₁}
 use Rattle.identification.specs.declared.TemplateNumber.{TemplateNumber}
 use Rattle.identification.specs.declared.TemplateNumber.the-variants.{None as noNumber, Is as isNumber}
@@ -66,14 +66,7 @@ untold (read vs) =
       «local_version» = nat (getD vs 5 none);
       significance = nat (getD vs 6 none);
       year = int (getD vs 7 none);
-      time =
-          record {
-            month = nat (getD vs 8 none);
-            day = nat (getD vs 9 none);
-            hour = nat (getD vs 10 none);
-            minute = nat (getD vs 11 none);
-            second = nat (getD vs 12 none);
-          };
+      time = toTime vs 8;
       status = nat (getD vs 13 none);
       «data_type» = nat (getD vs 14 none);
       template = toNumber (getD vs 15 none);
@@ -106,4 +99,4 @@ back (Read x) =
     })
 
 pub determined : (s : List ℕ) (a b : Answer) → told a ≡ outcome₁ s → told b ≡ outcome₁ s → a ≡ b
-determined s a b p q = sym (back a) ∙ ap untold (p ∙ sym q) ∙ back b
+determined s a b p q = told-back told untold back a b (p ∙ sym q)

@@ -1,10 +1,14 @@
--- From a value back to the number of a record that says it: with these an outcome shows the whole answer.
+-- From values back to the numbers of a record that say them: what is told of an answer shows the whole of it.
 -- Assumes nothing.
-use mathlib.Core.Path.{_≡_, refl}
-use Prim.Native.Nat.{ℕ}
+use mathlib.Core.Path.{_≡_, refl, ap, sym, _∙_}
+use mathlib.Core.List.{List}
+use Prim.Native.Nat.{ℕ, _+_}
+use lib.ListN.{getD}
 use lib.IntN.{ℤ, pos, natAbs}
 use Rattle.layout.specs.Fields.{Value, none, missing, is}
 use Rattle.layout.specs.Missing.{in8, in16, in32, inSigned}
+use Rattle.layout.specs.Time.{timeIn}
+use Rattle.layout.specs.declared.Time.{Time}
 use Rattle.layout.specs.declared.U8OrMissing.{U8OrMissing}
 use Rattle.layout.specs.declared.U8OrMissing.the-variants.{Missing as no8, Is as is8}
 use Rattle.layout.specs.declared.U16OrMissing.{U16OrMissing}
@@ -59,3 +63,36 @@ toSigned (is z) = isSigned z
 pub backSigned : (x : I32OrMissing) → toSigned (inSigned x) ≡ x
 backSigned noSigned = refl
 backSigned (isSigned z) = refl
+
+-- ---- so equal values are of equal answers
+
+-- whatever can be told back
+pub told-back : {A B : Type 0} (tell : A → B) (back : B → A) → ((a : A) → back (tell a) ≡ a) → (a b : A) → tell a ≡ tell b → a ≡ b
+told-back tell back h a b e = sym (h a) ∙ ap back e ∙ h b
+
+pub same8 : (x y : U8OrMissing) → in8 x ≡ in8 y → x ≡ y
+same8 = told-back in8 to8 back8
+
+pub same16 : (x y : U16OrMissing) → in16 x ≡ in16 y → x ≡ y
+same16 = told-back in16 to16 back16
+
+pub same32 : (x y : U32OrMissing) → in32 x ≡ in32 y → x ≡ y
+same32 = told-back in32 to32 back32
+
+pub sameSigned : (x y : I32OrMissing) → inSigned x ≡ inSigned y → x ≡ y
+sameSigned = told-back inSigned toSigned backSigned
+
+-- the five fields of a time, which stand from index `k` on among the values of a record
+abbrev pub toTime : List Value → ℕ → Time
+toTime vs k =
+    record {
+      month = nat (getD vs k none);
+      day = nat (getD vs (k + 1) none);
+      hour = nat (getD vs (k + 2) none);
+      minute = nat (getD vs (k + 3) none);
+      second = nat (getD vs (k + 4) none);
+    }
+
+pub sameTime : (x y : Time) → timeIn x ≡ timeIn y → x ≡ y
+unfolding timeIn
+sameTime = told-back timeIn (λ vs. toTime vs 0) (λ x. refl)
