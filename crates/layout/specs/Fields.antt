@@ -83,6 +83,10 @@ present w = held w (notOnes w) unsigned
 abbrev pub signedPresent : ℕ → Field
 signedPresent w = held w (notOnes w) signed
 
+-- a signed number that takes every value
+abbrev pub rawSigned : ℕ → Field
+rawSigned w = held w anything signed
+
 -- a number or missing; a signed one or missing; a number that is not zero, or missing
 abbrev pub optional : ℕ → Field
 optional w = held w anything (orMissing unsigned)

@@ -18,6 +18,11 @@ pub data Outcome : Type 0 where
 abbrev pub refusedBy : Refusal → Outcome
 refusedBy x = refused (x .number) (x .section) (x .place)
 
+-- one answer and then another: a refusal is handed on
+unfoldable pub andThen : Outcome → Outcome → Outcome
+andThen (refused number section place) o = refused number section place
+andThen (read vs) o = o
+
 -- a reason to refuse a section: whether it holds, its number, its place
 pub record Reason : Type 0 where
   pub holds : Bool

@@ -141,3 +141,9 @@ be-same (x ∷ xs) (y ∷ ys) l ox oy e =
     let g : x * p + be xs ≡ x * p + be ys = rw (← h) at f in
     let r : be xs ≡ be ys = omega arith in
     λ i. h i ∷ be-same xs ys n (λ k. ox (suc k)) (λ k. oy (suc k)) r i
+
+-- the product of a number of j bits and one of k bits
+pub product-below : (j k a b : ℕ) → a < 2 ^ j → b < 2 ^ k → a * b < 2 ^ (j + k)
+product-below j k a b ha hb =
+    subst⁻¹ (λ (n : ℕ). a * b < n) (pow-add 2 j k)
+    (lt-of-le-of-lt (mul-le-mul-left a (le-of-lt hb)) (mul-lt-mul-of-pos-right ha (pow-pos k)))

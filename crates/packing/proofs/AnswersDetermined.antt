@@ -1,0 +1,73 @@
+-- Any two answers that the contracts of `read`, `read_data` and `unpack` allow are one answer, and so are the rows.
+-- Assumes nothing.
+use Prim.Native.Nat.{ℕ}
+use mathlib.Core.Path.{_≡_, refl, sym, _∙_}
+use mathlib.Core.List.{List}
+use lib.ListN.{getD}
+use Rattle.layout.specs.Fields.{Value, none}
+use Rattle.layout.specs.Outcomes.{Outcome, refused, read}
+use Rattle.layout.proofs.Untold.{int, nat, told-back}
+use Rattle.packing.specs.Section5.{told₅, valuesIn₅, outcome₅}
+use Rattle.packing.specs.Section7.{told₇, valuesIn₇, outcome₇}
+use Rattle.packing.specs.Unpacking.{toldUnpacked, Unpacks}
+use Rattle.packing.specs.declared.Answer.{Answer}
+use Rattle.packing.specs.declared.Answer.the-variants.{Read as Read₅, Refused as Refused₅}
+use Rattle.packing.specs.declared.DataAnswer.{DataAnswer}
+use Rattle.packing.specs.declared.DataAnswer.the-variants.{Read as Read₇, Refused as Refused₇}
+use Rattle.packing.specs.declared.Unpacked.{Unpacked}
+use Rattle.packing.specs.declared.Unpacked.the-variants.{Written, Refused}
+
+-- ---- section 5
+
+untold₅ : Outcome → Answer
+untold₅ (refused n s p) = Refused₅ (record { number = n; section = s; place = p })
+untold₅ (read vs) =
+    Read₅
+    (record {
+      length = nat (getD vs 0 none);
+      number = nat (getD vs 1 none);
+      values = nat (getD vs 2 none);
+      template = nat (getD vs 3 none);
+      reference = nat (getD vs 4 none);
+      «binary_scale» = int (getD vs 5 none);
+      «decimal_scale» = int (getD vs 6 none);
+      bits = nat (getD vs 7 none);
+      «value_type» = nat (getD vs 8 none);
+    })
+
+back₅ : (a : Answer) → untold₅ (told₅ a) ≡ a
+unfolding untold₅ told₅ valuesIn₅
+back₅ (Refused₅ x) = refl
+back₅ (Read₅ x) = refl
+
+pub determined₅ : (s : List ℕ) (a b : Answer) → told₅ a ≡ outcome₅ s → told₅ b ≡ outcome₅ s → a ≡ b
+determined₅ s a b p q = told-back told₅ untold₅ back₅ a b (p ∙ sym q)
+
+-- ---- section 7
+
+untold₇ : Outcome → DataAnswer
+untold₇ (refused n s p) = Refused₇ (record { number = n; section = s; place = p })
+untold₇ (read vs) = Read₇ (record { length = nat (getD vs 0 none); number = nat (getD vs 1 none) })
+
+back₇ : (a : DataAnswer) → untold₇ (told₇ a) ≡ a
+unfolding untold₇ told₇ valuesIn₇
+back₇ (Refused₇ x) = refl
+back₇ (Read₇ x) = refl
+
+pub determined₇ : (n bits : ℕ) (s : List ℕ) (a b : DataAnswer) → told₇ a ≡ outcome₇ n bits s → told₇ b ≡ outcome₇ n bits s → a ≡ b
+determined₇ n bits s a b p q = told-back told₇ untold₇ back₇ a b (p ∙ sym q)
+
+-- ---- unpacking
+
+untold : Outcome → Unpacked
+untold (refused n s p) = Refused (record { number = n; section = s; place = p })
+untold (read vs) = Written (nat (getD vs 0 none))
+
+back : (a : Unpacked) → untold (toldUnpacked a) ≡ a
+unfolding untold toldUnpacked
+back (Refused x) = refl
+back (Written n) = refl
+
+pub determined : (five seven row : List ℕ) (a b : Unpacked) (after later : List ℕ) → Unpacks five seven row a after → Unpacks five seven row b later → (a ≡ b) × (after ≡ later)
+determined five seven row a b after later p q =
+    (told-back toldUnpacked untold back a b (p .answers ∙ sym (q .answers)), p .leaves ∙ sym (q .leaves))

@@ -1,0 +1,8 @@
+pub mod AcceptedExactlyWhen
+pub mod FieldsCoverOnce
+pub mod AnswersDetermined
+pub mod SpareBits
+pub mod StarredPacking
+pub mod Callers
+pub mod Runs
+pub mod Unpacks

@@ -1,0 +1,67 @@
+-- Section 5, as document 01 has it: its fields, its outcome, and what a program's answer says.
+-- Assumes nothing.
+use Prim.Native.Nat.{ℕ}
+use mathlib.Core.List.{List, [], _∷_}
+use mathlib.Core.Bool.{not}
+use lib.ListN.{length}
+use lib.Dec.{ltb, eqb}
+use Rattle.octets.specs.Octets.{beAt}
+use Rattle.layout.specs.Fields.{Value, is, plain, Field, raw, rawSigned, ranged, after, badPlace, valuesOf}
+use Rattle.layout.specs.Outcomes.{Outcome, read, refusedBy, Reason, reason, badField, firstOf, headReasons}
+use Rattle.layout.specs.declared.Refusal.{Refusal}
+use Rattle.packing.specs.declared.Packing.{Packing}
+use Rattle.packing.specs.declared.Answer.{Answer}
+use Rattle.packing.specs.declared.Answer.the-variants.{Read, Refused}
+
+-- length, number, number of values N, template, R as bits, E, D, bits per value, type
+unfoldable pub fields₅ : List Field
+fields₅ = raw 4 ∷ raw 1 ∷ raw 4 ∷ raw 2 ∷ raw 4 ∷ rawSigned 2 ∷ rawSigned 2 ∷ ranged 1 0 32 ∷ raw 1 ∷ []
+
+-- N and the bits per value, where they stand
+abbrev pub valuesAt : List ℕ → ℕ
+valuesAt s = beAt s 6 4
+
+abbrev pub bitsAt : List ℕ → ℕ
+bitsAt s = beAt s 20 1
+
+-- 7, 8 and 11, once the template is known
+abbrev pub simpleReasons : List ℕ → List Reason
+simpleReasons s =
+    reason 7 (ltb (length s) 21)
+    ∷ badField (badPlace (after 0 fields₅) s)
+    ∷ reason 11 (not (eqb (length s) 21))
+    ∷ []
+
+unfoldable pub asSimple : List ℕ → Outcome
+asSimple s = firstOf 5 (simpleReasons s) (read (valuesOf (after 0 fields₅) s))
+
+-- 5: under 11 octets; 6: the template is not 0
+abbrev pub reasons₅ : List ℕ → List Reason
+reasons₅ s = reason 5 (ltb (length s) 11) ∷ reason 6 (not (eqb (beAt s 10 2) 0)) ∷ []
+
+unfoldable pub outcome₅ : List ℕ → Outcome
+outcome₅ s = firstOf 5 (headReasons 5 s) (firstOf 5 (reasons₅ s) (asSimple s))
+
+-- ---- what a program's answer says
+
+unfoldable pub valuesIn₅ : Packing → List Value
+valuesIn₅ x =
+    plain (x .length)
+    ∷ plain (x .number)
+    ∷ plain (x .values)
+    ∷ plain (x .template)
+    ∷ plain (x .reference)
+    ∷ is (x .«binary_scale»)
+    ∷ is (x .«decimal_scale»)
+    ∷ plain (x .bits)
+    ∷ plain (x .«value_type»)
+    ∷ []
+
+unfoldable pub told₅ : Answer → Outcome
+told₅ (Read x) = read (valuesIn₅ x)
+told₅ (Refused x) = refusedBy x
+
+-- the refusal of an answer that is one; of none, zeros
+abbrev pub refusalIn₅ : Answer → Refusal
+refusalIn₅ (Refused x) = x
+refusalIn₅ (Read x) = record { number = 0; section = 0; place = 0 }

@@ -1,0 +1,42 @@
+-- Section 7, as document 01 has it, for N values of some bits each.
+-- Assumes nothing.
+use Prim.Native.Nat.{ℕ, _+_, _*_, _/_}
+use mathlib.Core.List.{List, [], _∷_}
+use mathlib.Core.Bool.{not}
+use lib.ListN.{length}
+use lib.Dec.{eqb}
+use Rattle.layout.specs.Fields.{Value, plain, Field, raw, shown, after, valuesOf}
+use Rattle.layout.specs.Outcomes.{Outcome, read, refusedBy, Reason, reason, firstOf, headReasons}
+use Rattle.layout.specs.declared.Refusal.{Refusal}
+use Rattle.packing.specs.declared.DataSection.{DataSection}
+use Rattle.packing.specs.declared.DataAnswer.{DataAnswer}
+use Rattle.packing.specs.declared.DataAnswer.the-variants.{Read, Refused}
+
+-- N x bits / 8, rounded up
+abbrev pub packedOctets : ℕ → ℕ → ℕ
+packedOctets n bits = (n * bits + 7) / 8
+
+-- length, number, the packed values
+unfoldable pub fields₇ : ℕ → ℕ → List Field
+fields₇ n bits = raw 4 ∷ raw 1 ∷ shown (packedOctets n bits) ∷ []
+
+abbrev pub reasons₇ : ℕ → ℕ → List ℕ → List Reason
+reasons₇ n bits s = reason 15 (not (eqb (length s) (5 + packedOctets n bits))) ∷ []
+
+unfoldable pub outcome₇ : ℕ → ℕ → List ℕ → Outcome
+outcome₇ n bits s =
+    firstOf 7 (headReasons 7 s) (firstOf 7 (reasons₇ n bits s) (read (valuesOf (after 0 (fields₇ n bits)) s)))
+
+-- ---- what a program's answer says
+
+unfoldable pub valuesIn₇ : DataSection → List Value
+valuesIn₇ x = plain (x .length) ∷ plain (x .number) ∷ []
+
+unfoldable pub told₇ : DataAnswer → Outcome
+told₇ (Read x) = read (valuesIn₇ x)
+told₇ (Refused x) = refusedBy x
+
+-- the refusal of an answer that is one; of none, zeros
+abbrev pub refusalIn₇ : DataAnswer → Refusal
+refusalIn₇ (Refused x) = x
+refusalIn₇ (Read x) = record { number = 0; section = 0; place = 0 }
