@@ -3,6 +3,48 @@ ghost use Prim.Native.Nat.{_≤_};
 ghost use lib.ListN.{length};
 use layout::Refusal;
 
+// A line of standard input: its length, and whether there is more to read.
+pub(crate) struct Line {
+    pub(crate) len: usize,
+    pub(crate) more: bool,
+}
+
+// Reads up to the next line end, as far as the buffer has room.
+pub(crate) fn read_line(line: &mut [u8]) -> Line
+    ensures { λ r. ⌜ r .len ≤ length (now (line .exit)) ⌝ }
+{
+    let mut n = 0;
+    while n < line.len() {
+        let octet = read_octet();
+        if 255 < octet {
+            return Line {
+                len: n,
+                more: false,
+            };
+        }
+        if octet == 10 {
+            return Line { len: n, more: true };
+        }
+        line[n] = (octet % 256) as u8;
+        n += 1;
+    }
+    Line { len: n, more: true }
+}
+
+// The next octet of standard input, and 256 at its end.
+fn read_octet() -> u16 {
+    let mut one = [0u8; 1];
+    let got = io::read_full(libc::STDIN_FILENO, &mut one);
+    if got == 0 {
+        return 256;
+    }
+    wide(one[0])
+}
+
+fn wide(x: u8) -> u16 {
+    x as u16
+}
+
 // The index of the next `byte` from index `from` on, or the text's length.
 pub(crate) fn next(text: &[u8], from: usize, byte: u8) -> usize
     ensures { λ r. ⌜ (r ≤ length (now (text .entry))) × (from ≤ length (now (text .entry)) → from ≤ r) ⌝ }
@@ -19,7 +61,7 @@ pub(crate) fn next(text: &[u8], from: usize, byte: u8) -> usize
 
 // The section that a line says after its `from`th character, ` LENGTH OCTETS`, at the start of `out`; its length.
 pub(crate) fn section_of(line: &[u8], from: usize, out: &mut [u8]) -> usize
-    ensures { λ r. ⌜ r ≤ 70000 ⌝ }
+    ensures { λ r. ⌜ r ≤ 600000 ⌝ }
 {
     let gap = next(line, from, b' ');
     if gap == line.len() {
@@ -40,15 +82,15 @@ pub(crate) fn section_of(line: &[u8], from: usize, out: &mut [u8]) -> usize
     size
 }
 
-// A decimal number, as far as it is at most 70,000.
-fn decimal(word: &[u8]) -> usize
-    ensures { λ r. ⌜ r ≤ 70000 ⌝ }
+// A decimal number, as far as it is at most 600,000.
+pub(crate) fn decimal(word: &[u8]) -> usize
+    ensures { λ r. ⌜ r ≤ 600000 ⌝ }
 {
     let mut value = 0;
     let mut i = 0;
     while i < word.len() {
         let more = value * 10 + digit(word[i]) as usize;
-        if 70000 < more {
+        if 600000 < more {
             return value;
         }
         value = more;

@@ -1,39 +1,31 @@
 // Runs the readers over cases from standard input and prints what each answers, one line for a case, so that it can be
 // compared with what document 01 says. A line of input is `SECTION LENGTH OCTETS`: the reader to ask, the length of the
-// section to lend it, and its octets in hexadecimal, of which the last stands for the rest. A line that starts with `#` is
-// printed as it is.
+// section to lend it, and its octets in hexadecimal, of which the last stands for the rest. For unpacking it is
+// `7 LENGTH OCTETS / LENGTH OCTETS / PLACES`: section 5, section 7, and the places of the row, each of which holds 9 before. A
+// line that starts with `#` is printed as it is.
 ghost use mathlib.Core.Path.{_≡_};
 ghost use lib.ListN.{length};
 
 mod lines;
 mod section1;
+mod section5;
 
 fn main() {
-    let mut input = input_buffer();
-    let n = io::read_full(libc::STDIN_FILENO, &mut input);
-    run(&input[..n]);
+    let mut line = io::large_buffer();
+    run(&mut line);
 }
 
-// Room for all the cases, and for a section that is longer than any may be. Each `ensures` gives only the length, which
-// lending the array as a slice needs.
-fn input_buffer() -> [u8; 262144]
-    ensures { λ r. ⌜ 262144 ≡ length r ⌝ }
-{
-    [0; 262144]
-}
-
-fn section_buffer() -> [u8; 70000]
-    ensures { λ r. ⌜ 70000 ≡ length r ⌝ }
-{
-    [0; 70000]
-}
-
-fn run(input: &[u8]) {
-    let mut at = 0;
-    while at < input.len() {
-        let end = lines::next(input, at, b'\n');
-        run_line(&input[at..end]);
-        at = end + 1;
+// One line after the other. The count only says that the work ends.
+fn run(line: &mut [u8]) {
+    let mut count: usize = 0;
+    while count < 1000000 {
+        let next = lines::read_line(line);
+        let n = next.len;
+        run_line(&line[0..n]);
+        if !next.more {
+            return;
+        }
+        count += 1;
     }
 }
 
@@ -51,12 +43,53 @@ fn run_line(line: &[u8]) {
 }
 
 fn run_case(line: &[u8], section: u8) {
+    if section == b'7' {
+        run_unpacking(line);
+        return;
+    }
     let mut octets = section_buffer();
     let size = lines::section_of(line, 1, &mut octets);
     let n = io::count(size as isize, &octets);
     if section == b'1' {
         section1::show(&octets[..n]);
+    } else if section == b'5' {
+        section5::show(&octets[..n]);
     } else {
         lines::text(b"no such reader");
     }
+}
+
+fn run_unpacking(line: &[u8]) {
+    let first = lines::next(line, 0, b'/');
+    if first == line.len() {
+        return;
+    }
+    let rest = &line[first + 1..];
+    let second = lines::next(rest, 0, b'/');
+    if second == rest.len() {
+        return;
+    }
+    let mut five = section_buffer();
+    let size5 = lines::section_of(&line[0..first], 1, &mut five);
+    let n5 = io::count(size5 as isize, &five);
+    let mut seven = section_buffer();
+    let size7 = lines::section_of(&rest[0..second], 0, &mut seven);
+    let n7 = io::count(size7 as isize, &seven);
+    let places = lines::decimal(&rest[second + 1..]);
+    let mut row = row_buffer();
+    section5::show_row(&five[..n5], &seven[..n7], &mut row, places);
+}
+
+// Room for a section that is longer than any may be, and for a row of as many values as any has. Each `ensures` gives only
+// the length, which lending the array as a slice needs.
+fn section_buffer() -> [u8; 70000]
+    ensures { λ r. ⌜ 70000 ≡ length r ⌝ }
+{
+    [0; 70000]
+}
+
+fn row_buffer() -> [u32; 524288]
+    ensures { λ r. ⌜ 524288 ≡ length r ⌝ }
+{
+    [9; 524288]
 }

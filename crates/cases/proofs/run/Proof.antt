@@ -1,3 +1,4 @@
+use mathlib.Core.Path.{_≡_}
 use Prim.Native.Nat.{_-_}
 use lib.ListN.{length}
 use native.Mathlib.Omega.{arith}
@@ -5,50 +6,62 @@ use Rattle.cases.proofs.run.Statement.{statement}
 use Rattle.cases.proofs.run.Tie as tie
 
 abbrev Inv-loop : tie.InvT-loop
-Inv-loop input at₀ at = Unit {0}
+Inv-loop line₀ count₀ line count = length line ≡ length line₀
 
 abbrev μ-loop : tie.MeasureT-loop
-μ-loop input at₀ at = length input - at
+μ-loop line₀ count₀ line count = 1000000 - count
 
--- src/main.rt:16:5
+-- src/main.rt:21:5
 loop-holds : tie.Need-loop-holds Inv-loop μ-loop
-loop-holds c = tt
+loop-holds c = omega arith
 
--- src/main.rt:17:13
-next-requires : tie.Need-next-requires Inv-loop μ-loop
-next-requires c κs = tt
+-- src/main.rt:22:13
+read-line-requires : tie.Need-read-line-requires Inv-loop μ-loop
+read-line-requires c κs = tt
 
--- src/main.rt:18:18
+-- src/main.rt:24:18
 sub-run-line : tie.Need-sub-run-line Inv-loop μ-loop
-sub-run-line c = omega (arith, c .next .ensures .1 (omega arith))
+sub-run-line c = omega arith
 
--- src/main.rt:18:18
+-- src/main.rt:24:18
 part-run-line-start : tie.Need-part-run-line-start Inv-loop μ-loop
-part-run-line-start c = omega (arith, c .next .ensures .1 (omega arith))
+part-run-line-start c = omega arith
 
--- src/main.rt:18:18
+-- src/main.rt:24:18
 part-run-line-end : tie.Need-part-run-line-end Inv-loop μ-loop
-part-run-line-end c = omega (arith, c .next .ensures .1 (omega arith))
+part-run-line-end c = omega arith
 
--- src/main.rt:18:9
+-- src/main.rt:24:9
 run-line-requires : tie.Need-run-line-requires Inv-loop μ-loop
 run-line-requires c κs = tt
 
--- src/main.rt:19:14
-add-at : tie.Need-add-at Inv-loop μ-loop
-add-at c = omega (arith, c .before .before .next .ensures .1 (omega arith))
+-- src/main.rt:26:13
+same-length : tie.Need-same-length Inv-loop μ-loop
+same-length c = omega arith
 
--- src/main.rt:16:5
-loop-less : tie.Need-loop-less Inv-loop μ-loop
-loop-less c = omega (arith, c .before .before .next .ensures .1 (omega arith))
-
--- src/main.rt:16:5
-loop-again : tie.Need-loop-again Inv-loop μ-loop
-loop-again c = tt
-
--- src/main.rt:14:1
+-- src/main.rt:26:13
 returns : tie.Need-returns Inv-loop μ-loop
 returns c = tt
+
+-- src/main.rt:28:9
+add-count : tie.Need-add-count Inv-loop μ-loop
+add-count c = omega arith
+
+-- src/main.rt:21:5
+loop-less : tie.Need-loop-less Inv-loop μ-loop
+loop-less c = omega arith
+
+-- src/main.rt:21:5
+loop-again : tie.Need-loop-again Inv-loop μ-loop
+loop-again c = omega arith
+
+-- src/main.rt:19:1
+same-length-2 : tie.Need-same-length-2 Inv-loop μ-loop
+same-length-2 c = omega arith
+
+-- src/main.rt:19:1
+returns-2 : tie.Need-returns-2 Inv-loop μ-loop
+returns-2 c = tt
 
 pub run-spec : {M : Type 1} → statement M
 run-spec =
@@ -57,12 +70,15 @@ run-spec =
     Inv-loop
     μ-loop
     loop-holds
-    next-requires
+    read-line-requires
     sub-run-line
     part-run-line-start
     part-run-line-end
     run-line-requires
-    add-at
+    same-length
+    returns
+    add-count
     loop-less
     loop-again
-    returns)
+    same-length-2
+    returns-2)
