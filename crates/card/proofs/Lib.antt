@@ -1,0 +1,4 @@
+pub mod Strict
+pub mod Lex
+pub mod Cards
+pub mod Octets
