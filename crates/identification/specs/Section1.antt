@@ -10,6 +10,7 @@ use Rattle.octets.specs.Octets.{beAt, signOf, realYear}
 use Rattle.layout.specs.Fields.{Value, none, is, plain, Meaning, unsigned, signed, Field, held, notOnes, raw, signedPresent, lacking, after, badPlace, valuesOf}
 use Rattle.layout.specs.Outcomes.{Outcome, refused, read, refusedBy, Reason, reason, badField, firstOf, headReasons}
 use Rattle.layout.specs.Time.{time, timeIn}
+use Rattle.layout.specs.declared.Refusal.{Refusal}
 use Rattle.identification.specs.declared.Template.{Template}
 use Rattle.identification.specs.declared.Template.the-variants.{None as noTemplate, Calendar, Offset, CalendarAndOffset}
 use Rattle.identification.specs.declared.TemplateNumber.{TemplateNumber}
@@ -135,3 +136,8 @@ valuesIn x =
 unfoldable pub told : Answer → Outcome
 told (Read x) = read (valuesIn x)
 told (Refused x) = refusedBy x
+
+-- the refusal of an answer that is one; of none, zeros
+abbrev pub refusalIn : Answer → Refusal
+refusalIn (Refused x) = x
+refusalIn (Read x) = record { number = 0; section = 0; place = 0 }

@@ -6,7 +6,7 @@ ghost use Rattle.octets.specs.Octets.{beAt, signOf, realYear};
 ghost use Rattle.layout.specs.Fields.{is, after, badPlace, lowestBad, valuesOf};
 ghost use Rattle.layout.specs.Outcomes.{refused};
 ghost use Rattle.layout.specs.Time.{time};
-ghost use Rattle.identification.specs.Section1.{outcome₁, byTemplate, asTemplate, fields₁, origin, year, statusAndType, total, values₁, valuesIn, templateIn, told};
+ghost use Rattle.identification.specs.Section1.{outcome₁, byTemplate, asTemplate, fields₁, origin, year, statusAndType, total, values₁, valuesIn, templateIn, told, refusalIn};
 use layout::Refusal;
 use layout::Time;
 
@@ -72,6 +72,20 @@ pub fn read(section: &[u8]) -> Answer
         return refusal(5, 0);
     }
     read_by_template(section)
+}
+
+// The refusal of an answer that is one, for a caller to hand on.
+pub fn refusal_of(answer: Answer) -> Refusal
+    ensures { λ r. ⌜ r ≡ refusalIn answer ⌝ }
+{
+    match answer {
+        Answer::Refused(x) => x,
+        Answer::Read(_) => Refusal {
+            number: 0,
+            section: 0,
+            place: 0,
+        },
+    }
 }
 
 fn refusal(number: u8, place: usize) -> Answer

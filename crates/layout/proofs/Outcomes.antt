@@ -1,6 +1,6 @@
 -- Laws of outcomes, for every section and every list of reasons.
 -- Assumes nothing.
-use mathlib.Core.Path.{_≡_, refl}
+use mathlib.Core.Path.{_≡_, refl, sym, ap, _∙_}
 use mathlib.Core.List.{List, [], _∷_}
 use mathlib.Core.Bool.{Bool, true, false, cond}
 use Prim.Native.Nat.{ℕ}
@@ -50,3 +50,9 @@ pub none-last : (section : ℕ) (rs : List Reason) (o : Outcome) → NoneHold rs
 unfolding firstOf NoneHold
 none-last section [] o h = refl
 none-last section (r ∷ rs) o h = rw (h .0) (none-last section rs o (h .1))
+
+-- ---- a caller that takes an answer apart
+
+-- what the answer that was found says is the outcome
+pub answer-is : {A : Type 0} (tell : A → Outcome) {a b : A} {o : Outcome} → tell a ≡ o → a ≡ b → o ≡ tell b
+answer-is tell p e = sym p ∙ ap tell e

@@ -3,6 +3,5 @@ pub mod FieldsCoverOnce
 pub mod AnswersDetermined
 pub mod SpareBits
 pub mod StarredPacking
-pub mod Callers
 pub mod Runs
 pub mod Unpacks

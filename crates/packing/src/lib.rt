@@ -158,8 +158,8 @@ pub fn unpack(section5: &[u8], section7: &[u8], row: &mut [u32]) -> Unpacked
     Unpacked::Written(packing.values)
 }
 
-// The refusal of an answer that is one, to be handed on.
-fn refusal_of(answer: Answer) -> Refusal
+// The refusal of an answer that is one, for a caller to hand on.
+pub fn refusal_of(answer: Answer) -> Refusal
     ensures { λ r. ⌜ r ≡ refusalIn₅ answer ⌝ }
 {
     match answer {
@@ -172,7 +172,7 @@ fn refusal_of(answer: Answer) -> Refusal
     }
 }
 
-fn data_refusal_of(answer: DataAnswer) -> Refusal
+pub fn data_refusal_of(answer: DataAnswer) -> Refusal
     ensures { λ r. ⌜ r ≡ refusalIn₇ answer ⌝ }
 {
     match answer {

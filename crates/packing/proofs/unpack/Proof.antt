@@ -4,10 +4,10 @@ use Rattle.octets.proofs.Free.{free}
 use Rattle.layout.specs.Fields.{Value}
 use Rattle.layout.specs.Outcomes.{read, refusedBy}
 use Rattle.packing.specs.Packed.{unpacked}
-use Rattle.packing.specs.Section5.{outcome₅, valuesIn₅, valuesAt, bitsAt, refusalIn₅}
-use Rattle.packing.specs.Section7.{outcome₇, refusalIn₇}
+use Rattle.packing.specs.Section5.{outcome₅, valuesIn₅, valuesAt, bitsAt, refusalIn₅, told₅}
+use Rattle.packing.specs.Section7.{outcome₇, refusalIn₇, told₇}
 use Rattle.packing.proofs.AcceptedExactlyWhen.{accepted-follows₇}
-use Rattle.packing.proofs.Callers.{read-is₅, refused-is₅, read-is₇, refused-is₇}
+use Rattle.layout.proofs.Outcomes.{answer-is}
 use Rattle.packing.proofs.Unpacks.{Known, known, five-refused, seven-refused, row-refused, all-written}
 use Prim.Native.Nat.{ℕ, _≤_, _-_}
 use mathlib.Core.List.{List}
@@ -21,28 +21,31 @@ use Rattle.packing.proofs.unpack.Statement.{statement}
 use Rattle.packing.proofs.unpack.Tie as tie
 
 returns : tie.Need-returns
+unfolding told₅ told₇
 returns c =
     let a = c .before .before .before .before .before .before .before .args in
     let refused = c .before .enum-told .given .1 in
     let same = c .refusal-of .ensures ∙ ap refusalIn₅ refused in
-    let e = refused-is₅ (c .before .before .before .read .ensures) refused ∙ ap refusedBy (sym same) in
+    let e = answer-is told₅ (c .before .before .before .read .ensures) refused ∙ ap refusedBy (sym same) in
     five-refused (now (a .section5)) (now (a .section7)) (now (a .row)) (c .refusal-of .result) e
 
 -- what was read of section 5
 five-read : (c : tie.After-read-data) → outcome₅ (now (c .before .before .before .before .before .before .before .before .args .section5)) ≡ read (valuesIn₅ (c .before .before .five .given .0 .0))
-five-read c = read-is₅ (c .before .before .before .before .read .ensures) (c .before .before .five .given .1)
+unfolding told₅ told₇
+five-read c = answer-is told₅ (c .before .before .before .before .read .ensures) (c .before .before .five .given .1)
 
 five-known : (c : tie.After-read-data) → Known (now (c .before .before .before .before .before .before .before .before .args .section5)) (c .before .before .five .given .0 .0)
 five-known c = known _ _ (five-read c)
 
 returns-2 : tie.Need-returns-2
+unfolding told₅ told₇
 returns-2 c =
     let r = c .before .before .before in
     let a = r .before .before .before .before .before .before .before .before .args in
     let k = five-known r in
     let refused = c .before .enum-told3 .given .1 in
     let same = c .data-refusal-of .ensures ∙ ap refusalIn₇ refused in
-    let e = refused-is₇ (r .read-data .ensures) refused ∙ ap refusedBy (sym same) in
+    let e = answer-is told₇ (r .read-data .ensures) refused ∙ ap refusedBy (sym same) in
     seven-refused (now (a .section5)) (now (a .section7)) (now (a .row)) _ (five-read r) (c .data-refusal-of .result) (rw (k .values, k .bits) at e)
 
 -- what was read of section 7
@@ -53,11 +56,11 @@ abbrev start : (c : tie.After-enum-told2) → tie.Start
 start c = c .before .before .before .before .before .before .before .before .before .before
 
 seven-read : (c : tie.After-enum-told2) → SevenRead (now (start c .args .section5)) (now (start c .args .section7))
-unfolding SevenRead
+unfolding SevenRead told₇
 seven-read c =
     let r = c .before .before in
     let k = five-known r in
-    (_, rw (k .values, k .bits) at (read-is₇ (r .read-data .ensures) (c .enum-told2 .given .1)))
+    (_, rw (k .values, k .bits) at (answer-is told₇ (r .read-data .ensures) (c .enum-told2 .given .1)))
 
 returns-3 : tie.Need-returns-3
 unfolding SevenRead
