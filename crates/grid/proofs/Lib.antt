@@ -1,0 +1,3 @@
+pub mod Widths
+pub mod FieldsByBlock
+pub mod Callers
