@@ -42,14 +42,14 @@ scaled = optional 1 ∷ optional 4 ∷ []
 unfoldable pub earth : List Field
 earth = raw 1 ∷ (scaled ++ (scaled ++ scaled))
 
--- octets 31 to 72: Ni, Nj, basic angle, subdivisions, La1, Lo1, component flags, La2, Lo2, Di, Dj, scanning mode
-unfoldable pub area : List Field
-area =
-    count 4
-    ∷ count 4
-    ∷ raw 4
-    ∷ count 4
-    ∷ signedPresent 4
+-- octets 31 to 46: Ni, Nj, basic angle, subdivisions
+unfoldable pub counts : List Field
+counts = count 4 ∷ count 4 ∷ raw 4 ∷ count 4 ∷ []
+
+-- octets 47 to 72: La1, Lo1, component flags, La2, Lo2, Di, Dj, scanning mode
+unfoldable pub corners : List Field
+corners =
+    signedPresent 4
     ∷ signedPresent 4
     ∷ raw 1
     ∷ signedPresent 4
@@ -61,7 +61,7 @@ area =
 
 -- octets 15 to 72, the same in all four templates
 unfoldable pub common : List Field
-common = earth ++ area
+common = earth ++ (counts ++ corners)
 
 -- latitude and longitude of a pole, and its angle of rotation or stretching factor
 unfoldable pub pole : List Field

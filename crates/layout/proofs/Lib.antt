@@ -3,3 +3,4 @@ pub mod Outcomes
 pub mod Ranges
 pub mod Untold
 pub mod Shown
+pub mod Allowed

@@ -1,11 +1,11 @@
 use Rattle.octets.proofs.Free.{free}
 use Rattle.layout.specs.Fields.{placed, lowestBad}
-use Rattle.grid.specs.Section3.{scaled, earth, area, common}
+use Rattle.grid.specs.Section3.{scaled, earth, counts, corners, common}
 use Rattle.grid.proofs.bad_common.Statement.{statement}
 use Rattle.grid.proofs.bad_common.Tie as tie
 
 returns : tie.Need-returns
-unfolding placed lowestBad scaled earth area common
+unfolding placed lowestBad scaled earth counts corners common
 returns c =
     simp (
       c .nonzero323 .ensures,

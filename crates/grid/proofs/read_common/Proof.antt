@@ -3,13 +3,13 @@ use Rattle.octets.proofs.Signs.{kept}
 use mathlib.Core.Path.{_∙_}
 use mathlib.Core.List.{[], _∷_, _++_}
 use Rattle.layout.specs.Fields.{placed, valuesOf, plain, is}
-use Rattle.grid.specs.Section3.{scaled, earth, area, common, commonIn}
+use Rattle.grid.specs.Section3.{scaled, earth, counts, corners, common, commonIn}
 use borrow.Author.Needs.{needs}
 use Rattle.grid.proofs.read_common.Statement.{statement}
 use Rattle.grid.proofs.read_common.Tie as tie
 
 returns : tie.Need-returns
-unfolding placed valuesOf scaled earth area common commonIn
+unfolding placed valuesOf scaled earth counts corners common commonIn
 returns c =
     let l = c .before .before .before .before in
     let f = l .before .before .before .before in
