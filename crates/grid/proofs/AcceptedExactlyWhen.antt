@@ -234,7 +234,7 @@ accepted-follows s vs e =
 -- ---- it follows, so it is accepted
 
 -- none of the reasons 10 to 13, and octets 11 and 12 are in their ranges
-pub record Fits (template : Template) (s : List ℕ) : Type 0 where
+pub record FitTogether (template : Template) (s : List ℕ) : Type 0 where
   pub width : (eqb (listWidth s) 0 || hasList (listWidth s)) ≡ true
   pub interpretation : beAt s 12 1 ≤ 2
   pub agree : agreed s ≡ true
@@ -242,7 +242,7 @@ pub record Fits (template : Template) (s : List ℕ) : Type 0 where
   pub product : productAbove s ≡ false
   pub points : beAt s 7 4 ≡ pointsOf template s
 
-no-list-fits : (template : Template) (s : List ℕ) → NoList template s → Fits template s
+no-list-fits : (template : Template) (s : List ℕ) → NoList template s → FitTogether template s
 unfolding agreed bothPresent
 no-list-fits template s f = record {
   width = rw (f .width);
@@ -254,7 +254,7 @@ no-list-fits template s f = record {
   points = f .points ∙ sym (points-without template s (f .width));
 }
 
-list-fits : (absent increment counted : ℕ) (template : Template) (s : List ℕ) → oneMissing s ≡ true → listCount s ≡ beAt s counted 4 → AList absent increment counted template s → Fits template s
+list-fits : (absent increment counted : ℕ) (template : Template) (s : List ℕ) → oneMissing s ≡ true → listCount s ≡ beAt s counted 4 → AList absent increment counted template s → FitTogether template s
 unfolding agreed
 list-fits absent increment counted template s m n f =
     let w = width-listed _ (f .width) in
@@ -267,7 +267,7 @@ list-fits absent increment counted template s m n f =
       points = f .points ∙ sym (points-listed template s w ∙ ap (sumOf (baseEnd template) (listWidth s) s) n);
     }
 
-pub all-fits : (template : Template) (s : List ℕ) → NoList template s ⊎ (AList 31 64 35 template s ⊎ AList 35 68 31 template s) → Fits template s
+pub all-fits : (template : Template) (s : List ℕ) → NoList template s ⊎ (AList 31 64 35 template s ⊎ AList 35 68 31 template s) → FitTogether template s
 all-fits template s (inl f) = no-list-fits template s f
 all-fits template s (inr (inl f)) =
     list-fits 31 64 35 template s (i-missing s (f .missing, f .increment-missing, f .count)) (count-i template s (width-listed _ (f .width)) (f .missing)) f

@@ -1,12 +1,12 @@
 -- Any two answers that `read`'s contract allows for a section are one answer.
 -- Assumes nothing.
-use Prim.Native.Nat.{ℕ, zero, suc, _+_}
-use mathlib.Core.Path.{_≡_, refl, ap, sym, _∙_}
+use Prim.Native.Nat.{ℕ, zero, suc}
+use mathlib.Core.Path.{_≡_, refl, sym, _∙_}
 use mathlib.Core.List.{List}
 use lib.ListN.{getD, drop}
 use Rattle.layout.specs.Fields.{Value, none}
 use Rattle.layout.specs.Outcomes.{Outcome, refused, read}
-use Rattle.layout.proofs.Untold.{int, nat, to8, back8, to32, back32}
+use Rattle.layout.proofs.Untold.{int, nat, to8, back8, to32, back32, told-back}
 use Rattle.grid.specs.Section3.{told, valuesIn, scaledIn, earthIn, commonIn, poleIn, polesIn, outcome₃}
 use Rattle.grid.specs.declared.Scaled.{Scaled}
 use Rattle.grid.specs.declared.Common.{Common}
@@ -126,4 +126,4 @@ back (Read x) =
     })
 
 pub determined : (s : List ℕ) (a b : Answer) → told a ≡ outcome₃ s → told b ≡ outcome₃ s → a ≡ b
-determined s a b p q = sym (back a) ∙ ap untold (p ∙ sym q) ∙ back b
+determined s a b p q = told-back told untold back a b (p ∙ sym q)

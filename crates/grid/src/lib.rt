@@ -425,7 +425,7 @@ fn listed_at(section: &[u8], at: usize, width: u8) -> u32
 fn template_part(section: &[u8]) -> &[u8]
     ensures { λ r. ⌜ now r ≡ drop 14 (now (section .entry)) ⌝ }
 {
-    if section.len() < 14 {
+    if section.len() <= 14 {
         return &section[..0];
     }
     &section[14..]
