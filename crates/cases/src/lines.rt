@@ -211,15 +211,15 @@ fn missing(words: &[u8]) {
 // A part as the input has a section: its length and its octets, of which the last stands for the rest.
 pub(crate) fn part(words: &[u8], octets: &[u8]) {
     number(words, octets.len() as u64);
-    let n = told(octets);
+    let n = needed(octets);
     if 0 < n {
         text(b" ");
         hexadecimal(&octets[..n]);
     }
 }
 
-// How many octets have to be told, if the last of them stands for the rest.
-fn told(octets: &[u8]) -> usize
+// How many octets are needed, if the last of them stands for the rest.
+fn needed(octets: &[u8]) -> usize
     ensures { λ r. ⌜ r ≤ length (now (octets .entry)) ⌝ }
 {
     let mut n = octets.len();

@@ -1,26 +1,27 @@
 -- A section 3 is accepted exactly when it follows a template and keeps the value rules; what is read out are then the values
 -- of that template's fields.
 -- Assumes nothing.
-use Prim.Native.Nat.{ℕ, zero, suc, _+_, _*_, _^_, _≤_, _<_}
+use Prim.Native.Nat.{ℕ, zero, suc, _*_, _^_, _≤_}
 use native.Mathlib.Nat.{zero-mul}
 use native.Mathlib.Omega.{arith}
 use mathlib.Core.Path.{_≡_, refl, ap, sym, _∙_}
 use mathlib.Core.Logic.{_↔_, _⊎_, inl, inr}
 use mathlib.Core.List.{List}
-use mathlib.Core.Bool.{Bool, true, false, not, cond, _&&_, _||_}
+use mathlib.Core.Bool.{Bool, true, false, cond, _&&_, _||_, or-true}
 use lib.ListN.{length}
-use lib.Dec.{ltb, leb, eqb}
-use borrow.Author.Tests.{le-ltb, ltb-false, eq-eqb, ne-eqb, eqb-true, eqb-false, lt-leb, leb-false, not-false}
+use lib.Dec.{leb, eqb}
+use borrow.Author.Tests.{le-ltb, ltb-false, eq-eqb, ne-eqb, eqb-true, lt-leb, leb-false, not-false}
 use Rattle.octets.specs.Octets.{beAt}
 use Rattle.layout.specs.Fields.{Value, between, after, placed, AllAllowed}
-use Rattle.layout.specs.Outcomes.{Outcome, read, firstOf, headReasons}
+use Rattle.layout.specs.Outcomes.{read, firstOf, headReasons}
 use Rattle.layout.proofs.Blocks.{bad-none, none-bad}
 use Rattle.layout.proofs.Outcomes.{NoneHold, read-none, none-last}
 use Rattle.layout.proofs.Ranges.{both-hold, between-in, in-between, test-differs, differs-test, test-same, same-test}
-use Rattle.grid.specs.Section3.{hasList, gridHead, counts, corners, pole, poles, fields₃, baseEnd, listWidth, interpretation, ni, nj, di, dj, isMissing, bothPresent, oneMissing, agreed, listCount, listOctets, total, sumOf, pointsOf, productAbove, values₃, fittingReasons, fitting, templateReasons, asTemplate, numberReasons, templateNumbered, templateOf, outcome₃}
+use Rattle.grid.specs.Section3.{hasList, gridHead, counts, corners, pole, poles, fields₃, baseEnd, listWidth, interpretation, ni, nj, missingWith, agreedWithoutList, agreedWithList, agreed, listCount, listOctets, total, sumOf, pointsOf, productAbove, values₃, fittingReasons, fitting, templateReasons, asTemplate, numberReasons, templateNumbered, templateOf, outcome₃}
 use Rattle.grid.specs.Accepted.{numberOf, Missing, Present, PolesPresent, NoList, AList, Follows₃}
 use Rattle.grid.specs.declared.Template.{Template}
 use Rattle.grid.specs.declared.Template.the-variants.{LatLon, Rotated, Stretched, StretchedAndRotated}
+use Rattle.grid.proofs.Widths.{which-width, width-listed, listed-not-0}
 use Rattle.grid.proofs.FieldsByBlock.{allowed-by-block, block-by-block-allowed}
 
 -- ---- the template
@@ -80,48 +81,24 @@ in-poles StretchedAndRotated s h = (
 
 -- ---- the list: what the tests say of the width, Ni, Nj, Di, Dj and octet 12
 
-which-width : (width : ℕ) → hasList width ≡ true → (width ≡ 1) ⊎ ((width ≡ 2) ⊎ (width ≡ 4))
-unfolding hasList
-which-width width e = by-one (eqb width 1) refl (eqb width 2) refl e
-  where
-    by-one : (a : Bool) → eqb width 1 ≡ a → (b : Bool) → eqb width 2 ≡ b → (a || b || eqb width 4) ≡ true → (width ≡ 1) ⊎ ((width ≡ 2) ⊎ (width ≡ 4))
-    by-one true h b g e = inl (eqb-true _ _ h)
-    by-one false h true g e = inr (inl (eqb-true _ _ g))
-    by-one false h false g e = inr (inr (eqb-true _ _ e))
-
-width-listed : (width : ℕ) → (width ≡ 1) ⊎ ((width ≡ 2) ⊎ (width ≡ 4)) → hasList width ≡ true
-unfolding hasList
-width-listed width (inl e) = rw e
-width-listed width (inr (inl e)) = rw e
-width-listed width (inr (inr e)) = rw e
-
-listed-not-0 : (width : ℕ) → hasList width ≡ true → eqb width 0 ≡ false
-unfolding hasList
-listed-not-0 width e = by-test (eqb width 0) refl
-  where
-    by-test : (t : Bool) → eqb width 0 ≡ t → t ≡ false
-    by-test false h = refl
-    by-test true h = let g = rw (eqb-true width 0 h) at e in let z : _≡_ {A = ℕ} 0 1 = cc in absurd (omega arith)
-
 -- one of Ni and Nj is missing with its increment, and the other is there
-abbrev OneMissing : ℕ → ℕ → ℕ → List ℕ → Type 0
-OneMissing absent increment counted s = Missing absent s × Missing increment s × Present counted s
+abbrev MissingWith : ℕ → ℕ → ℕ → List ℕ → Type 0
+MissingWith absent increment counted s = Missing absent s × Missing increment s × Present counted s
 
-which-missing : (s : List ℕ) → oneMissing s ≡ true → OneMissing 31 64 35 s ⊎ OneMissing 35 68 31 s
-unfolding oneMissing
-which-missing s e = by-ni (isMissing (ni s)) refl e
-  where
-    by-ni : (t : Bool) → isMissing (ni s) ≡ t → cond t (not (isMissing (nj s)) && isMissing (di s)) (isMissing (nj s) && isMissing (dj s)) ≡ true → OneMissing 31 64 35 s ⊎ OneMissing 35 68 31 s
-    by-ni true h e = let p = both-hold _ _ e in inl (eqb-true _ _ h, eqb-true _ _ (p .1), test-differs _ _ (p .0))
-    by-ni false h e = let p = both-hold _ _ e in inr (eqb-true _ _ (p .0), eqb-true _ _ (p .1), eqb-false _ _ h)
+missing-in : (absent increment counted : ℕ) (s : List ℕ) → missingWith absent increment counted s ≡ true → MissingWith absent increment counted s
+unfolding missingWith
+missing-in absent increment counted s e =
+    let p = both-hold _ _ e in
+    let q = both-hold _ _ (p .1) in
+    (eqb-true _ _ (p .0), eqb-true _ _ (q .0), test-differs _ _ (q .1))
 
-i-missing : (s : List ℕ) → OneMissing 31 64 35 s → oneMissing s ≡ true
-unfolding oneMissing
-i-missing s m = simp (eq-eqb _ _ (m .0), eq-eqb _ _ (m .1), ne-eqb _ _ (m .2))
+in-missing : (absent increment counted : ℕ) (s : List ℕ) → MissingWith absent increment counted s → missingWith absent increment counted s ≡ true
+unfolding missingWith
+in-missing absent increment counted s m = simp (eq-eqb _ _ (m .0), eq-eqb _ _ (m .1), ne-eqb _ _ (m .2))
 
-j-missing : (s : List ℕ) → OneMissing 35 68 31 s → oneMissing s ≡ true
-unfolding oneMissing
-j-missing s m = simp (eq-eqb _ _ (m .0), eq-eqb _ _ (m .1), ne-eqb _ _ (m .2))
+which-holds : (a b : Bool) → (a || b) ≡ true → (a ≡ true) ⊎ (b ≡ true)
+which-holds true b e = inl refl
+which-holds false b e = inr e
 
 -- ---- without a list, and with one
 
@@ -158,8 +135,8 @@ module _ (template : Template) (s : List ℕ) (width : hasList (listWidth s) ≡
 
 -- the reasons 10 to 13 in plain words
 module _ (template : Template) (s : List ℕ) (whole : length s ≡ total template s) (points : beAt s 7 4 ≡ pointsOf template s) where
-  no-list-follows : listWidth s ≡ 0 → (eqb (interpretation s) 0 && bothPresent s) ≡ true → productAbove s ≡ false → NoList template s
-  unfolding bothPresent
+  no-list-follows : listWidth s ≡ 0 → agreedWithoutList s ≡ true → productAbove s ≡ false → NoList template s
+  unfolding agreedWithoutList
   no-list-follows w e p =
       let agree = both-hold _ _ e in
       let present = both-hold _ _ (agree .1) in
@@ -173,7 +150,7 @@ module _ (template : Template) (s : List ℕ) (whole : length s ≡ total templa
         points = points ∙ points-without template s w;
       }
 
-  list-follows : (absent increment counted : ℕ) → hasList (listWidth s) ≡ true → between 1 2 (interpretation s) ≡ true → OneMissing absent increment counted s → listCount s ≡ beAt s counted 4 → AList absent increment counted template s
+  list-follows : (absent increment counted : ℕ) → hasList (listWidth s) ≡ true → between 1 2 (interpretation s) ≡ true → MissingWith absent increment counted s → listCount s ≡ beAt s counted 4 → AList absent increment counted template s
   list-follows absent increment counted w i m n = record {
     width = which-width _ w;
     interpretation = between-in _ _ _ i;
@@ -185,19 +162,23 @@ module _ (template : Template) (s : List ℕ) (whole : length s ≡ total templa
   }
 
   fitting-follows : agreed s ≡ true → productAbove s ≡ false → NoList template s ⊎ (AList 31 64 35 template s ⊎ AList 35 68 31 template s)
-  unfolding agreed
+  unfolding agreed agreedWithList
   fitting-follows e p = by-width (eqb (listWidth s) 0) refl e
     where
-      with-list : hasList (listWidth s) ≡ true → between 1 2 (interpretation s) ≡ true → OneMissing 31 64 35 s ⊎ OneMissing 35 68 31 s → AList 31 64 35 template s ⊎ AList 35 68 31 template s
-      with-list w i (inl m) = inl (list-follows 31 64 35 w i m (count-i template s w (m .0)))
-      with-list w i (inr m) = inr (list-follows 35 68 31 w i m (count-j template s w (m .2)))
+      with-list : hasList (listWidth s) ≡ true → between 1 2 (interpretation s) ≡ true → (missingWith 31 64 35 s ≡ true) ⊎ (missingWith 35 68 31 s ≡ true) → AList 31 64 35 template s ⊎ AList 35 68 31 template s
+      with-list w i (inl h) =
+          let m = missing-in 31 64 35 s h in
+          inl (list-follows 31 64 35 w i m (count-i template s w (m .0)))
+      with-list w i (inr h) =
+          let m = missing-in 35 68 31 s h in
+          inr (list-follows 35 68 31 w i m (count-j template s w (m .2)))
 
-      by-width : (t : Bool) → eqb (listWidth s) 0 ≡ t → cond t (eqb (interpretation s) 0 && bothPresent s) (hasList (listWidth s) && (between 1 2 (interpretation s) && oneMissing s)) ≡ true → NoList template s ⊎ (AList 31 64 35 template s ⊎ AList 35 68 31 template s)
+      by-width : (t : Bool) → eqb (listWidth s) 0 ≡ t → cond t (agreedWithoutList s) (hasList (listWidth s) && agreedWithList s) ≡ true → NoList template s ⊎ (AList 31 64 35 template s ⊎ AList 35 68 31 template s)
       by-width true h e = inl (no-list-follows (eqb-true _ _ h) e p)
       by-width false h e =
           let agree = both-hold _ _ e in
           let rest = both-hold _ _ (agree .1) in
-          inr (with-list (agree .0) (rest .0) (which-missing s (rest .1)))
+          inr (with-list (agree .0) (rest .0) (which-holds _ _ (rest .1)))
 
 pub accepted-follows : (s : List ℕ) (vs : List Value) → outcome₃ s ≡ read vs → (template : Template) × Follows₃ template s × (vs ≡ values₃ template s)
 unfolding outcome₃ asTemplate fitting NoneHold AllAllowed placed gridHead counts corners
@@ -243,7 +224,7 @@ pub record FitTogether (template : Template) (s : List ℕ) : Type 0 where
   pub points : beAt s 7 4 ≡ pointsOf template s
 
 no-list-fits : (template : Template) (s : List ℕ) → NoList template s → FitTogether template s
-unfolding agreed bothPresent
+unfolding agreed agreedWithoutList
 no-list-fits template s f = record {
   width = rw (f .width);
   interpretation = rw (f .interpretation) (omega arith);
@@ -254,8 +235,8 @@ no-list-fits template s f = record {
   points = f .points ∙ sym (points-without template s (f .width));
 }
 
-list-fits : (absent increment counted : ℕ) (template : Template) (s : List ℕ) → oneMissing s ≡ true → listCount s ≡ beAt s counted 4 → AList absent increment counted template s → FitTogether template s
-unfolding agreed
+list-fits : (absent increment counted : ℕ) (template : Template) (s : List ℕ) → (missingWith 31 64 35 s || missingWith 35 68 31 s) ≡ true → listCount s ≡ beAt s counted 4 → AList absent increment counted template s → FitTogether template s
+unfolding agreed agreedWithList
 list-fits absent increment counted template s m n f =
     let w = width-listed _ (f .width) in
     record {
@@ -270,9 +251,11 @@ list-fits absent increment counted template s m n f =
 pub all-fits : (template : Template) (s : List ℕ) → NoList template s ⊎ (AList 31 64 35 template s ⊎ AList 35 68 31 template s) → FitTogether template s
 all-fits template s (inl f) = no-list-fits template s f
 all-fits template s (inr (inl f)) =
-    list-fits 31 64 35 template s (i-missing s (f .missing, f .increment-missing, f .count)) (count-i template s (width-listed _ (f .width)) (f .missing)) f
+    let m = in-missing 31 64 35 s (f .missing, f .increment-missing, f .count) in
+    list-fits 31 64 35 template s (rw m) (count-i template s (width-listed _ (f .width)) (f .missing)) f
 all-fits template s (inr (inr f)) =
-    list-fits 35 68 31 template s (j-missing s (f .missing, f .increment-missing, f .count)) (count-j template s (width-listed _ (f .width)) (f .count)) f
+    let m = in-missing 35 68 31 s (f .missing, f .increment-missing, f .count) in
+    list-fits 35 68 31 template s (rw m (or-true (missingWith 31 64 35 s))) (count-j template s (width-listed _ (f .width)) (f .count)) f
 
 pub follows-accepted : (template : Template) (s : List ℕ) → Follows₃ template s → outcome₃ s ≡ read (values₃ template s)
 unfolding outcome₃ asTemplate fitting NoneHold AllAllowed placed gridHead counts corners

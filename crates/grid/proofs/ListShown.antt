@@ -9,8 +9,8 @@ use mathlib.Core.Bool.{true}
 use lib.ListN.{length, drop, length-drop, drop-of-length-le}
 use Rattle.octets.specs.Octets.{part, beAt}
 use Rattle.octets.proofs.Laws.{part-all, part-drop, beAt-drop}
-use Rattle.layout.specs.Outcomes.{Outcome, refused, read}
-use Rattle.grid.specs.Section3.{hasList, baseEnd, listWidth, listCount, listOctets, total, sumOf, pointsOf, templateNumbered, templateOf, values₃, shownIf, outcome₃, list₃}
+use Rattle.layout.specs.Outcomes.{refused}
+use Rattle.grid.specs.Section3.{hasList, baseEnd, listWidth, listCount, listOctets, sumOf, templateNumbered, templateOf, outcome₃, list₃}
 use Rattle.grid.specs.Accepted.{Follows₃, NoList}
 use Rattle.grid.specs.declared.Template.{Template}
 use Rattle.grid.proofs.AcceptedExactlyWhen.{all-fits, named, points-listed, follows-accepted}

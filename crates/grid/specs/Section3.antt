@@ -101,27 +101,25 @@ ni s = beAt s 31 4
 abbrev pub nj : List ℕ → ℕ
 nj s = beAt s 35 4
 
-abbrev pub di : List ℕ → ℕ
-di s = beAt s 64 4
-
-abbrev pub dj : List ℕ → ℕ
-dj s = beAt s 68 4
-
 abbrev pub isMissing : ℕ → Bool
 isMissing x = eqb x (allOnes 4)
 
-unfoldable pub bothPresent : List ℕ → Bool
-bothPresent s = not (isMissing (ni s)) && not (isMissing (nj s))
+-- the count at octet `absent` is missing and its increment too, and the count at octet `counted` is not
+unfoldable pub missingWith : ℕ → ℕ → ℕ → List ℕ → Bool
+missingWith absent increment counted s =
+    isMissing (beAt s absent 4) && (isMissing (beAt s increment 4) && not (isMissing (beAt s counted 4)))
 
--- exactly one of Ni and Nj is missing, and its increment too
-unfoldable pub oneMissing : List ℕ → Bool
-oneMissing s = cond (isMissing (ni s)) (not (isMissing (nj s)) && isMissing (di s)) (isMissing (nj s) && isMissing (dj s))
+-- octet 12 is 0, Ni and Nj are both present
+unfoldable pub agreedWithoutList : List ℕ → Bool
+agreedWithoutList s = eqb (interpretation s) 0 && (not (isMissing (ni s)) && not (isMissing (nj s)))
 
--- width 0: octet 12 is 0, Ni and Nj are both present; width 1, 2 or 4: octet 12 is 1 or 2, exactly one is missing
+-- octet 12 is 1 or 2; Ni is missing with Di and Nj is not, or Nj is missing with Dj and Ni is not
+unfoldable pub agreedWithList : List ℕ → Bool
+agreedWithList s = between 1 2 (interpretation s) && (missingWith 31 64 35 s || missingWith 35 68 31 s)
+
+-- width 0, or 1, 2 or 4
 unfoldable pub agreed : List ℕ → Bool
-agreed s =
-    cond (eqb (listWidth s) 0) (eqb (interpretation s) 0 && bothPresent s)
-    (hasList (listWidth s) && (between 1 2 (interpretation s) && oneMissing s))
+agreed s = cond (eqb (listWidth s) 0) (agreedWithoutList s) (hasList (listWidth s) && agreedWithList s)
 
 -- Nj numbers if Ni is missing, else Ni numbers
 unfoldable pub listCount : List ℕ → ℕ

@@ -5,7 +5,7 @@ ghost use lib.ListN.{drop};
 ghost use Rattle.octets.specs.Octets.{beAt};
 ghost use Rattle.layout.specs.Fields.{after, badPlace, lowestBad, valuesOf};
 ghost use Rattle.layout.specs.Outcomes.{refused};
-ghost use Rattle.grid.specs.Section3.{outcome₃, asTemplate, fitting, templateNumbered, baseEnd, fields₃, gridHead, scaled, earth, common, pole, poles, widthAllowed, hasList, isMissing, bothPresent, oneMissing, agreed, listCount, listOctets, total, productAbove, sumOf, pointsOf, values₃, list₃, scaledIn, earthIn, commonIn, poleIn, polesIn, valuesIn, told};
+ghost use Rattle.grid.specs.Section3.{outcome₃, asTemplate, fitting, templateNumbered, baseEnd, fields₃, scaled, earth, common, pole, poles, widthAllowed, hasList, isMissing, missingWith, agreedWithoutList, agreedWithList, agreed, listCount, listOctets, total, productAbove, sumOf, pointsOf, values₃, list₃, scaledIn, earthIn, commonIn, poleIn, polesIn, valuesIn, told};
 use layout::Refusal;
 use layout::U8OrMissing;
 use layout::U32OrMissing;
@@ -282,54 +282,62 @@ fn agrees(section: &[u8]) -> bool
     ensures { λ r. ⌜ r ≡ agreed (now (section .entry)) ⌝ }
 {
     let width = octets::u8_at(section, 11);
-    let interpretation = octets::u8_at(section, 12);
     if width == 0 {
-        if interpretation != 0 {
-            return false;
-        }
-        return both_present(section);
+        return agrees_without_list(section);
     }
     if !has_list(width) {
         return false;
     }
-    if interpretation < 1 {
-        return false;
-    }
-    if 2 < interpretation {
-        return false;
-    }
-    one_missing(section)
+    agrees_with_list(section)
 }
 
-fn missing(section: &[u8], at: usize) -> bool
-    ensures { λ r. ⌜ r ≡ isMissing (beAt (now (section .entry)) at 4) ⌝ }
+// Ni and Nj both present, octet 12 is 0.
+fn agrees_without_list(section: &[u8]) -> bool
+    ensures { λ r. ⌜ r ≡ agreedWithoutList (now (section .entry)) ⌝ }
 {
-    octets::u32_at(section, at) == 0xffff_ffff
-}
-
-fn both_present(section: &[u8]) -> bool
-    ensures { λ r. ⌜ r ≡ bothPresent (now (section .entry)) ⌝ }
-{
+    if octets::u8_at(section, 12) != 0 {
+        return false;
+    }
     if missing(section, 31) {
         return false;
     }
     !missing(section, 35)
 }
 
-// Exactly one of Ni and Nj, and its increment too.
-fn one_missing(section: &[u8]) -> bool
-    ensures { λ r. ⌜ r ≡ oneMissing (now (section .entry)) ⌝ }
+// Exactly one of Ni and Nj missing, its increment (Di for Ni) missing too, octet 12 is 1 or 2.
+fn agrees_with_list(section: &[u8]) -> bool
+    ensures { λ r. ⌜ r ≡ agreedWithList (now (section .entry)) ⌝ }
 {
-    if missing(section, 31) {
-        if missing(section, 35) {
-            return false;
-        }
-        return missing(section, 64);
+    let interpretation = octets::u8_at(section, 12);
+    if interpretation < 1 {
+        return false;
     }
-    if missing(section, 35) {
-        return missing(section, 68);
+    if 2 < interpretation {
+        return false;
     }
-    false
+    if missing_with(section, 31, 64, 35) {
+        return true;
+    }
+    missing_with(section, 35, 68, 31)
+}
+
+// The count at octet `absent` is missing and its increment too, and the count at octet `counted` is not.
+fn missing_with(section: &[u8], absent: usize, increment: usize, counted: usize) -> bool
+    ensures { λ r. ⌜ r ≡ missingWith absent increment counted (now (section .entry)) ⌝ }
+{
+    if !missing(section, absent) {
+        return false;
+    }
+    if !missing(section, increment) {
+        return false;
+    }
+    !missing(section, counted)
+}
+
+fn missing(section: &[u8], at: usize) -> bool
+    ensures { λ r. ⌜ r ≡ isMissing (beAt (now (section .entry)) at 4) ⌝ }
+{
+    octets::u32_at(section, at) == 0xffff_ffff
 }
 
 // ---- 11: the total

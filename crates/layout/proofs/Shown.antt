@@ -3,7 +3,7 @@
 use mathlib.Core.Path.{_≡_, _∙_}
 use mathlib.Core.List.{List, [], _∷_, _++_, append-nil}
 use Prim.Native.Nat.{ℕ, _+_}
-use Rattle.layout.specs.Fields.{Field, shown, widthOf, placed, after, valuesOf, lowestBad}
+use Rattle.layout.specs.Fields.{Field, shown, placed, after, valuesOf, lowestBad}
 use Rattle.layout.proofs.Blocks.{values-meet, bad-meet}
 
 pub values-shown : (end : ℕ) (fs : List Field) (n : ℕ) (s : List ℕ) → valuesOf (after end (fs ++ (shown n ∷ []))) s ≡ valuesOf (after end fs) s

@@ -1,10 +1,10 @@
 use Rattle.octets.proofs.Free.{free}
 use denote.Ref.{now}
-use lib.ListN.{length, take, drop, length-drop}
+use lib.ListN.{length, drop, length-drop}
 use lib.Seq.{take-all}
-use mathlib.Core.Path.{ap, _∙_}
+use mathlib.Core.Path.{_∙_}
 use native.Mathlib.Omega.{arith}
-use Rattle.grid.specs.Section3.{baseEnd, list₃}
+use Rattle.grid.specs.Section3.{list₃}
 use Rattle.grid.proofs.Callers.{read-is, refused-is}
 use borrow.Author.Needs.{needs}
 use Rattle.grid.proofs.list.Statement.{statement}

@@ -2,7 +2,7 @@ use Rattle.octets.proofs.Free.{free}
 use Prim.Native.Nat.{ℕ, _+_, _-_, _*_, _≤_}
 use denote.Ref.{now}
 use Rattle.octets.specs.Octets.{beAt}
-use mathlib.Core.Path.{_≡_, refl, ap, sym, _∙_}
+use mathlib.Core.Path.{_≡_, refl, ap, _∙_}
 use mathlib.Core.Bool.{true}
 use native.Mathlib.Nat.{mul-add, mul-zero, mul-one}
 use native.Mathlib.Numerals.{add-one}

@@ -1,6 +1,6 @@
 use Rattle.octets.proofs.Free.{free}
 use Prim.Native.Nat.{ℕ, suc, _*_, _/_, _<_}
-use mathlib.Core.Path.{_≡_, refl, sym, _∙_}
+use mathlib.Core.Path.{_≡_, refl, sym}
 use mathlib.Core.Bool.{Bool, true, false}
 use native.Mathlib.Nat.{zero-mul, mul-comm, div-lt-iff-lt-mul, le-div-iff-mul-le, pos-of-ne-zero}
 use native.Mathlib.Omega.{arith}

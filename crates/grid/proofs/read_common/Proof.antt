@@ -4,7 +4,6 @@ use mathlib.Core.Path.{_∙_}
 use mathlib.Core.List.{[], _∷_, _++_}
 use Rattle.layout.specs.Fields.{placed, valuesOf, plain, is}
 use Rattle.grid.specs.Section3.{scaled, earth, counts, corners, common, commonIn}
-use borrow.Author.Needs.{needs}
 use Rattle.grid.proofs.read_common.Statement.{statement}
 use Rattle.grid.proofs.read_common.Tie as tie
 

@@ -2,7 +2,6 @@ use Rattle.octets.proofs.Free.{free}
 use mathlib.Core.List.{_∷_, _++_}
 use Rattle.layout.specs.Fields.{placed, valuesOf, plain}
 use Rattle.grid.specs.Section3.{scaled, earth, earthIn}
-use borrow.Author.Needs.{needs}
 use Rattle.grid.proofs.read_earth.Statement.{statement}
 use Rattle.grid.proofs.read_earth.Tie as tie
 

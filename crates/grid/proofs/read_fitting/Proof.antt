@@ -1,8 +1,10 @@
 use Rattle.octets.proofs.Free.{free}
 use denote.Ref.{now}
 use mathlib.Core.Path.{_≡_, sym, _∙_}
-use Rattle.layout.specs.Outcomes.{firstOf}
-use Rattle.grid.specs.Section3.{pointsOf, fitting, told}
+use mathlib.Core.Bool.{not, cond}
+use lib.Dec.{eqb}
+use Rattle.layout.specs.Outcomes.{refused, read, firstOf}
+use Rattle.grid.specs.Section3.{pointsOf, values₃, fitting, told}
 use borrow.Author.Needs.{needs}
 use borrow.Author.Tests.{eq-eqb, ne-eqb, not-false}
 use Rattle.grid.proofs.read_fitting.Statement.{statement}
@@ -45,43 +47,29 @@ returns-3 c =
       d .if3 .taken,
     )
 
-returns-4 : tie.Need-returns-4
+-- only the points are left to decide
+decided : (c : tie.After-points-of) → fitting (c .before .before .before .before .before .before .before .before .before .args .template) (now (c .before .before .before .before .before .before .before .before .before .args .section)) ≡ cond (not (eqb (c .before .u32-at .result) (c .points-of .result))) (refused 13 3 0) (read (values₃ (c .before .before .before .before .before .before .before .before .before .args .template) (now (c .before .before .before .before .before .before .before .before .before .args .section))))
 unfolding fitting firstOf
-returns-4 c =
-    let p = c .before in
-    let d = p .before .before .before in
+decided c =
+    let d = c .before .before in
     let e = d .before .before in
     simp (
-      c .refusal4 .ensures,
       ← e .before .before .before .agrees .ensures,
       e .before .before .if1 .left,
       ← e .before .total-of .ensures,
       eq-eqb _ _ (e .if2 .left),
       ← d .before .product-above .ensures,
       d .if3 .left,
-      ← p .before .before .u32-at .ensures,
-      ← points (p .before),
-      ne-eqb _ _ (p .if4 .taken),
+      ← c .before .u32-at .ensures,
+      ← points c,
     )
 
+returns-4 : tie.Need-returns-4
+returns-4 c = simp (c .refusal4 .ensures, decided (c .before .before), ne-eqb _ _ (c .before .if4 .taken))
+
 returns-5 : tie.Need-returns-5
-unfolding told fitting firstOf
-returns-5 c =
-    let p = c .before in
-    let d = p .before .before .before in
-    let e = d .before .before in
-    simp (
-      c .of-section .ensures,
-      ← e .before .before .before .agrees .ensures,
-      e .before .before .if1 .left,
-      ← e .before .total-of .ensures,
-      eq-eqb _ _ (e .if2 .left),
-      ← d .before .product-above .ensures,
-      d .if3 .left,
-      ← p .before .before .u32-at .ensures,
-      ← points (p .before),
-      eq-eqb _ _ (p .if4 .left),
-    )
+unfolding told
+returns-5 c = simp (c .of-section .ensures, decided (c .before .before), eq-eqb _ _ (c .before .if4 .left))
 
 pub read-fitting-spec : {M : Type 1} → statement M
 read-fitting-spec = tie.close (tie.spec free free returns free free returns-2 free free returns-3 free (λ c. search needs) free free returns-4 free returns-5)

@@ -1,10 +1,8 @@
 use Rattle.octets.proofs.Free.{free}
 use Prim.Native.Nat.{_+_, _*_, _≤_}
-use mathlib.Core.Path.{_≡_}
 use native.Mathlib.Nat.{mul-le-mul-right}
 use native.Mathlib.Omega.{arith}
 use borrow.Author.Needs.{needs}
-use Rattle.grid.specs.Section3.{baseEnd}
 use Rattle.grid.proofs.Widths.{base-small}
 use Rattle.grid.proofs.total_of.Statement.{statement}
 use Rattle.grid.proofs.total_of.Tie as tie

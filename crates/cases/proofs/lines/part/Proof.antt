@@ -6,7 +6,7 @@ use Rattle.cases.proofs.lines.part.Statement.{statement}
 use Rattle.cases.proofs.lines.part.Tie as tie
 
 slice-aggregate-hexadecimal : tie.Need-slice-aggregate-hexadecimal
-slice-aggregate-hexadecimal c = let t = c .before .before .before .before in sym (length-take-le (t .told .result) (now (t .before .before .before .before .args .octets)) (t .told .ensures))
+slice-aggregate-hexadecimal c = let t = c .before .before .before .before in sym (length-take-le (t .needed .result) (now (t .before .before .before .before .args .octets)) (t .needed .ensures))
 
 pub part-spec : {M : Type 1} → statement M
 part-spec =
