@@ -16,7 +16,7 @@ use Rattle.layout.specs.Fields.{Value, between, after, placed, AllAllowed}
 use Rattle.layout.specs.Outcomes.{read, firstOf, headReasons}
 use Rattle.layout.proofs.Blocks.{bad-none, none-bad}
 use Rattle.layout.proofs.Outcomes.{NoneHold, read-none, none-last}
-use Rattle.layout.proofs.Ranges.{both-hold, between-in, in-between, test-differs, differs-test, test-same, same-test}
+use Rattle.layout.proofs.Ranges.{both-hold, either-holds, between-in, in-between, test-differs, differs-test, test-same, same-test}
 use Rattle.grid.specs.Section3.{hasList, gridHead, counts, corners, pole, poles, fields₃, baseEnd, listWidth, interpretation, ni, nj, missingWith, agreedWithoutList, agreedWithList, agreed, listCount, listOctets, total, sumOf, pointsOf, productAbove, values₃, fittingReasons, fitting, templateReasons, asTemplate, numberReasons, templateNumbered, templateOf, outcome₃}
 use Rattle.grid.specs.Accepted.{numberOf, Missing, Present, PolesPresent, NoList, AList, Follows₃}
 use Rattle.grid.specs.declared.Template.{Template}
@@ -96,10 +96,6 @@ in-missing : (absent increment counted : ℕ) (s : List ℕ) → MissingWith abs
 unfolding missingWith
 in-missing absent increment counted s m = simp (eq-eqb _ _ (m .0), eq-eqb _ _ (m .1), ne-eqb _ _ (m .2))
 
-which-holds : (a b : Bool) → (a || b) ≡ true → (a ≡ true) ⊎ (b ≡ true)
-which-holds true b e = inl refl
-which-holds false b e = inr e
-
 -- ---- without a list, and with one
 
 module _ (template : Template) (s : List ℕ) (width : listWidth s ≡ 0) where
@@ -178,7 +174,7 @@ module _ (template : Template) (s : List ℕ) (whole : length s ≡ total templa
       by-width false h e =
           let agree = both-hold _ _ e in
           let rest = both-hold _ _ (agree .1) in
-          inr (with-list (agree .0) (rest .0) (which-holds _ _ (rest .1)))
+          inr (with-list (agree .0) (rest .0) (either-holds _ _ (rest .1)))
 
 pub accepted-follows : (s : List ℕ) (vs : List Value) → outcome₃ s ≡ read vs → (template : Template) × Follows₃ template s × (vs ≡ values₃ template s)
 unfolding outcome₃ asTemplate fitting NoneHold AllAllowed placed gridHead counts corners

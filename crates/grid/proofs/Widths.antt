@@ -1,4 +1,4 @@
--- The widths of a list, and what the base's end and the width keep small.
+-- The widths of a list, and the base's end, which is small.
 -- Assumes nothing.
 use mathlib.Core.Path.{_≡_, refl}
 use mathlib.Core.Bool.{Bool, true, false, _||_}

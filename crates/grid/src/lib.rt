@@ -91,7 +91,7 @@ impl Grid {
     fn of_section(section: &[u8], template: Template) -> Self
         ensures { λ r. ⌜ valuesIn r ≡ values₃ template (now (section .entry)) ⌝ }
     {
-        let from_15 = template_part(section);
+        let part = template_part(section);
         Self {
             length: octets::u32_at(section, 1),
             number: octets::u8_at(section, 5),
@@ -100,8 +100,8 @@ impl Grid {
             list_width: octets::u8_at(section, 11),
             interpretation: octets::u8_at(section, 12),
             template: octets::u16_at(section, 13),
-            common: read_common(from_15),
-            poles: read_poles(from_15, template),
+            common: read_common(part),
+            poles: read_poles(part, template),
         }
     }
 }
@@ -365,7 +365,7 @@ fn total_of(section: &[u8], template: Template) -> usize
 
 // ---- 12 and 13: the points
 
-// Whether there is no list and Ni x Nj is above 64 bits: Nj goes beyond what Ni leaves of the largest number.
+// Whether there is no list and Ni x Nj is above 64 bits: then Nj is more than the largest number divided by Ni.
 fn product_above(section: &[u8]) -> bool
     ensures { λ r. ⌜ r ≡ productAbove (now (section .entry)) ⌝ }
 {
@@ -381,7 +381,7 @@ fn product_above(section: &[u8]) -> bool
     most < (nj as u64)
 }
 
-// Ni x Nj, or the sum of the list.
+// Ni x Nj, or the sum of the list. What it answers where the numbers do not agree is of no use: they are refused before.
 fn points_of(section: &[u8], template: Template) -> u64
     ensures { λ r. ⌜ (agreed (now (section .entry)) ≡ true → r ≡ pointsOf template (now (section .entry))) ⌝ }
 {
@@ -399,7 +399,8 @@ fn points_of(section: &[u8], template: Template) -> u64
     )
 }
 
-// The sum of `count` numbers of `width` octets each behind octet `end`, in one pass over the list.
+// The sum of `count` numbers of `width` octets each behind octet `end`, in one pass over the list: below 2^64, since count
+// and number are below 2^32.
 fn list_sum(section: &[u8], end: u32, width: u8, count: u32) -> u64
     ensures { λ r. ⌜ (hasList width ≡ true → r ≡ sumOf end width (now (section .entry)) count) ⌝ }
 {
@@ -429,7 +430,7 @@ fn listed_at(section: &[u8], at: usize, width: u8) -> u32
 
 // ---- the record
 
-// The section from octet 15 on.
+// The section from octet 15 on, which the readers of the template are handed.
 fn template_part(section: &[u8]) -> &[u8]
     ensures { λ r. ⌜ now r ≡ drop 14 (now (section .entry)) ⌝ }
 {
@@ -439,69 +440,69 @@ fn template_part(section: &[u8]) -> &[u8]
     &section[14..]
 }
 
-// Octets 15 to 72, which are octets 1 to 58 of the part from octet 15 on.
-fn read_common(from_15: &[u8]) -> Common
-    ensures { λ r. ⌜ commonIn r ≡ valuesOf (after 0 common) (now («from_15» .entry)) ⌝ }
+// Octets 15 to 72, which are octets 1 to 58 of the part.
+fn read_common(part: &[u8]) -> Common
+    ensures { λ r. ⌜ commonIn r ≡ valuesOf (after 0 common) (now (part .entry)) ⌝ }
 {
     Common {
-        earth: read_earth(from_15),
-        ni: layout::u32_or_missing(from_15, 17),
-        nj: layout::u32_or_missing(from_15, 21),
-        basic_angle: octets::u32_at(from_15, 25),
-        subdivisions: layout::u32_or_missing(from_15, 29),
-        la1: octets::signed32_at(from_15, 33),
-        lo1: octets::signed32_at(from_15, 37),
-        component_flags: octets::u8_at(from_15, 41),
-        la2: octets::signed32_at(from_15, 42),
-        lo2: octets::signed32_at(from_15, 46),
-        di: layout::u32_or_missing(from_15, 50),
-        dj: layout::u32_or_missing(from_15, 54),
-        scanning_mode: octets::u8_at(from_15, 58),
+        earth: read_earth(part),
+        ni: layout::u32_or_missing(part, 17),
+        nj: layout::u32_or_missing(part, 21),
+        basic_angle: octets::u32_at(part, 25),
+        subdivisions: layout::u32_or_missing(part, 29),
+        la1: octets::signed32_at(part, 33),
+        lo1: octets::signed32_at(part, 37),
+        component_flags: octets::u8_at(part, 41),
+        la2: octets::signed32_at(part, 42),
+        lo2: octets::signed32_at(part, 46),
+        di: layout::u32_or_missing(part, 50),
+        dj: layout::u32_or_missing(part, 54),
+        scanning_mode: octets::u8_at(part, 58),
     }
 }
 
-fn read_earth(from_15: &[u8]) -> Earth
-    ensures { λ r. ⌜ earthIn r ≡ valuesOf (after 0 earth) (now («from_15» .entry)) ⌝ }
+fn read_earth(part: &[u8]) -> Earth
+    ensures { λ r. ⌜ earthIn r ≡ valuesOf (after 0 earth) (now (part .entry)) ⌝ }
 {
     Earth {
-        shape: octets::u8_at(from_15, 1),
-        radius: read_scaled(from_15, 1),
-        major_axis: read_scaled(from_15, 6),
-        minor_axis: read_scaled(from_15, 11),
+        shape: octets::u8_at(part, 1),
+        radius: read_scaled(part, 1),
+        major_axis: read_scaled(part, 6),
+        minor_axis: read_scaled(part, 11),
     }
 }
 
-fn read_scaled(from_15: &[u8], end: u32) -> Scaled
-    ensures { λ r. ⌜ scaledIn r ≡ valuesOf (after end scaled) (now («from_15» .entry)) ⌝ }
+fn read_scaled(part: &[u8], end: u32) -> Scaled
+    ensures { λ r. ⌜ scaledIn r ≡ valuesOf (after end scaled) (now (part .entry)) ⌝ }
 {
     let before = end as usize;
     Scaled {
-        factor: layout::u8_or_missing(from_15, before + 1),
-        value: layout::u32_or_missing(from_15, before + 2),
+        factor: layout::u8_or_missing(part, before + 1),
+        value: layout::u32_or_missing(part, before + 2),
     }
 }
 
-// Octets 73 to the end of the base, which follow octet 58 of the part from octet 15 on.
-fn read_poles(from_15: &[u8], template: Template) -> Poles
-    ensures { λ r. ⌜ polesIn r ≡ valuesOf (after 58 (poles template)) (now («from_15» .entry)) ⌝ }
+// Octets 73 to the end of the base, which follow octet 58 of the part.
+fn read_poles(part: &[u8], template: Template) -> Poles
+    ensures { λ r. ⌜ polesIn r ≡ valuesOf (after 58 (poles template)) (now (part .entry)) ⌝ }
 {
     match template {
         Template::LatLon => Poles::None,
-        Template::Rotated => Poles::Rotated(read_pole(from_15, 58)),
-        Template::Stretched => Poles::Stretched(read_pole(from_15, 58)),
+        Template::Rotated => Poles::Rotated(read_pole(part, 58)),
+        Template::Stretched => Poles::Stretched(read_pole(part, 58)),
         Template::StretchedAndRotated => {
-            Poles::StretchedAndRotated(read_pole(from_15, 58), read_pole(from_15, 70))
+            Poles::StretchedAndRotated(read_pole(part, 58), read_pole(part, 70))
         }
     }
 }
 
-fn read_pole(from_15: &[u8], end: u32) -> Pole
-    ensures { λ r. ⌜ poleIn r ≡ valuesOf (after end pole) (now («from_15» .entry)) ⌝ }
+fn read_pole(part: &[u8], end: u32) -> Pole
+    ensures { λ r. ⌜ poleIn r ≡ valuesOf (after end pole) (now (part .entry)) ⌝ }
 {
     let before = end as usize;
     Pole {
-        latitude: octets::signed32_at(from_15, before + 1),
-        longitude: octets::signed32_at(from_15, before + 5),
-        angle_or_factor: octets::u32_at(from_15, before + 9),
+        latitude: octets::signed32_at(part, before + 1),
+        longitude: octets::signed32_at(part, before + 5),
+        angle_or_factor: octets::u32_at(part, before + 9),
     }
 }
