@@ -2,6 +2,8 @@
 ghost use Prim.Native.Nat.{_≤_};
 ghost use lib.ListN.{length};
 use layout::Refusal;
+use layout::U8OrMissing;
+use layout::U32OrMissing;
 
 // A line of standard input: its length, and whether there is more to read.
 pub(crate) struct Line {
@@ -183,4 +185,69 @@ pub(crate) fn refusal(x: Refusal) {
     number(b"number", x.number as u64);
     number(b"section", x.section as u64);
     number(b"place", x.place as u64);
+}
+
+// ---- numbers that may be missing, and parts of a section
+
+pub(crate) fn u8_or_missing(words: &[u8], x: U8OrMissing) {
+    match x {
+        U8OrMissing::Is(n) => number(words, n as u64),
+        U8OrMissing::Missing => missing(words),
+    }
+}
+
+pub(crate) fn u32_or_missing(words: &[u8], x: U32OrMissing) {
+    match x {
+        U32OrMissing::Is(n) => number(words, n as u64),
+        U32OrMissing::Missing => missing(words),
+    }
+}
+
+fn missing(words: &[u8]) {
+    name(words);
+    text(b"missing");
+}
+
+// A part as the input has a section: its length and its octets, of which the last stands for the rest.
+pub(crate) fn part(words: &[u8], octets: &[u8]) {
+    number(words, octets.len() as u64);
+    let n = needed(octets);
+    if 0 < n {
+        text(b" ");
+        hexadecimal(&octets[..n]);
+    }
+}
+
+// How many octets are needed, if the last of them stands for the rest.
+fn needed(octets: &[u8]) -> usize
+    ensures { λ r. ⌜ r ≤ length (now (octets .entry)) ⌝ }
+{
+    let mut n = octets.len();
+    while 1 < n {
+        if octets[n - 1] != octets[n - 2] {
+            return n;
+        }
+        n -= 1;
+    }
+    n
+}
+
+fn hexadecimal(octets: &[u8]) {
+    let mut i = 0;
+    while i < octets.len() {
+        let octet = octets[i];
+        let pair = [hex_digit(octet / 16), hex_digit(octet % 16)];
+        text(&pair);
+        i += 1;
+    }
+}
+
+fn hex_digit(n: u8) -> u8 {
+    if n < 10 {
+        return b'0' + n;
+    }
+    if n < 16 {
+        return b'a' + (n - 10);
+    }
+    b'?'
 }

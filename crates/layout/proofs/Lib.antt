@@ -2,3 +2,5 @@ pub mod Blocks
 pub mod Outcomes
 pub mod Ranges
 pub mod Untold
+pub mod Shown
+pub mod Allowed

@@ -1,7 +1,8 @@
 -- What a field's test says of its number, and back.
 -- Assumes nothing.
-use mathlib.Core.Path.{_≡_}
-use mathlib.Core.Bool.{Bool, true, false, not, _&&_}
+use mathlib.Core.Path.{_≡_, refl}
+use mathlib.Core.Bool.{Bool, true, false, not, _&&_, _||_}
+use mathlib.Core.Logic.{_⊎_, inl, inr}
 use Prim.Native.Nat.{ℕ, _≤_}
 use lib.Dec.{leb, eqb}
 use native.Mathlib.Omega.{arith}
@@ -12,6 +13,10 @@ pub both-hold : (a b : Bool) → (a && b) ≡ true → (a ≡ true) × (b ≡ tr
 both-hold true true e = (e, e)
 both-hold true false e = let z : _≡_ {A = ℕ} 0 1 = cc in absurd (omega arith)
 both-hold false b e = let z : _≡_ {A = ℕ} 0 1 = cc in absurd (omega arith)
+
+pub either-holds : (a b : Bool) → (a || b) ≡ true → (a ≡ true) ⊎ (b ≡ true)
+either-holds true b e = inl refl
+either-holds false b e = inr e
 
 pub between-in : (low high x : ℕ) → between low high x ≡ true → (low ≤ x) × (x ≤ high)
 unfolding between

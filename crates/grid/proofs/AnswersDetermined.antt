@@ -1,0 +1,129 @@
+-- Any two answers that `read`'s contract allows for a section are one answer.
+-- Assumes nothing.
+use Prim.Native.Nat.{ℕ, zero, suc}
+use mathlib.Core.Path.{_≡_, refl, sym, _∙_}
+use mathlib.Core.List.{List}
+use lib.ListN.{getD, drop}
+use Rattle.layout.specs.Fields.{Value, none}
+use Rattle.layout.specs.Outcomes.{Outcome, refused, read}
+use Rattle.layout.proofs.Untold.{int, nat, to8, back8, to32, back32, told-back}
+use Rattle.grid.specs.Section3.{told, valuesIn, scaledIn, earthIn, commonIn, poleIn, polesIn, outcome₃}
+use Rattle.grid.specs.declared.Scaled.{Scaled}
+use Rattle.grid.specs.declared.Common.{Common}
+use Rattle.grid.specs.declared.Pole.{Pole}
+use Rattle.grid.specs.declared.Poles.{Poles}
+use Rattle.grid.specs.declared.Poles.the-variants.{None as noPoles, Rotated as isRotated, Stretched as isStretched, StretchedAndRotated as isBoth}
+use Rattle.grid.specs.declared.Answer.{Answer}
+use Rattle.grid.specs.declared.Answer.the-variants.{Read, Refused}
+
+-- ---- blocks of values
+
+toScaled : List Value → Scaled
+toScaled vs = record { factor = to8 (getD vs 0 none); value = to32 (getD vs 1 none) }
+
+scaled-back : (x : Scaled) → toScaled (scaledIn x) ≡ x
+unfolding toScaled scaledIn
+scaled-back x = λ i. record { factor = back8 (x .factor) i; value = back32 (x .value) i }
+
+toPole : List Value → Pole
+toPole vs = record { latitude = int (getD vs 0 none); longitude = int (getD vs 1 none); «angle_or_factor» = nat (getD vs 2 none) }
+
+-- the first value tells which of them follow
+toPoles : List Value → Poles
+toPoles vs = by-tag (nat (getD vs 0 none))
+  where
+    by-tag : ℕ → Poles
+    by-tag zero = noPoles
+    by-tag (suc zero) = isRotated (toPole (drop 1 vs))
+    by-tag (suc (suc zero)) = isStretched (toPole (drop 4 vs))
+    by-tag (suc (suc (suc n))) = isBoth (toPole (drop 1 vs)) (toPole (drop 4 vs))
+
+poles-back : (x : Poles) → toPoles (polesIn x) ≡ x
+unfolding toPole toPoles poleIn polesIn
+poles-back noPoles = refl
+poles-back (isRotated x) = refl
+poles-back (isStretched x) = refl
+poles-back (isBoth x y) = refl
+
+-- ---- the answer that an outcome is of
+
+toCommon : List Value → Common
+toCommon vs = record {
+  earth =
+      record {
+        shape = nat (getD vs 0 none);
+        radius = toScaled (drop 1 vs);
+        «major_axis» = toScaled (drop 3 vs);
+        «minor_axis» = toScaled (drop 5 vs);
+      };
+  ni = to32 (getD vs 7 none);
+  nj = to32 (getD vs 8 none);
+  «basic_angle» = nat (getD vs 9 none);
+  subdivisions = to32 (getD vs 10 none);
+  la1 = int (getD vs 11 none);
+  lo1 = int (getD vs 12 none);
+  «component_flags» = nat (getD vs 13 none);
+  la2 = int (getD vs 14 none);
+  lo2 = int (getD vs 15 none);
+  di = to32 (getD vs 16 none);
+  dj = to32 (getD vs 17 none);
+  «scanning_mode» = nat (getD vs 18 none);
+}
+
+untold : Outcome → Answer
+untold (refused n s p) = Refused (record { number = n; section = s; place = p })
+untold (read vs) =
+    Read
+    (record {
+      length = nat (getD vs 0 none);
+      number = nat (getD vs 1 none);
+      source = nat (getD vs 2 none);
+      points = nat (getD vs 3 none);
+      «list_width» = nat (getD vs 4 none);
+      interpretation = nat (getD vs 5 none);
+      template = nat (getD vs 6 none);
+      common = toCommon (drop 7 vs);
+      poles = toPoles (drop 26 vs);
+    })
+
+back : (a : Answer) → untold (told a) ≡ a
+unfolding untold told valuesIn commonIn earthIn scaledIn toScaled toCommon
+back (Refused x) = refl
+back (Read x) =
+    let earth = x .common .earth in
+    λ i. Read
+    (record {
+      length = x .length;
+      number = x .number;
+      source = x .source;
+      points = x .points;
+      «list_width» = x .«list_width»;
+      interpretation = x .interpretation;
+      template = x .template;
+      common =
+          record {
+            earth =
+                record {
+                  shape = earth .shape;
+                  radius = scaled-back (earth .radius) i;
+                  «major_axis» = scaled-back (earth .«major_axis») i;
+                  «minor_axis» = scaled-back (earth .«minor_axis») i;
+                };
+            ni = back32 (x .common .ni) i;
+            nj = back32 (x .common .nj) i;
+            «basic_angle» = x .common .«basic_angle»;
+            subdivisions = back32 (x .common .subdivisions) i;
+            la1 = x .common .la1;
+            lo1 = x .common .lo1;
+            «component_flags» = x .common .«component_flags»;
+            la2 = x .common .la2;
+            lo2 = x .common .lo2;
+            di = back32 (x .common .di) i;
+            dj = back32 (x .common .dj) i;
+            «scanning_mode» = x .common .«scanning_mode»;
+          };
+      poles = poles-back (x .poles) i;
+    })
+
+pub determined : (s : List ℕ) (a b : Answer) → told a ≡ outcome₃ s → told b ≡ outcome₃ s → a ≡ b
+determined s a b p q = told-back told untold back a b (p ∙ sym q)

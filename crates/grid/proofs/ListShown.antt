@@ -1,0 +1,52 @@
+-- What `list` shows of an accepted section: those very octets that follow the base, whose numbers sum to the points. A refused
+-- section, and one without a list, shows none.
+-- Assumes nothing.
+use Prim.Native.Nat.{ℕ, zero, suc, _+_, _*_, _-_}
+use native.Mathlib.Omega.{arith}
+use mathlib.Core.Path.{_≡_, refl, ap, sym, _∙_}
+use mathlib.Core.List.{List, []}
+use mathlib.Core.Bool.{true}
+use lib.ListN.{length, drop, length-drop, drop-of-length-le}
+use Rattle.octets.specs.Octets.{part, beAt}
+use Rattle.octets.proofs.Laws.{part-all, part-drop, beAt-drop}
+use Rattle.layout.specs.Outcomes.{refused}
+use Rattle.grid.specs.Section3.{hasList, baseEnd, listWidth, listCount, listOctets, sumOf, templateNumbered, templateOf, outcome₃, list₃}
+use Rattle.grid.specs.Accepted.{Follows₃, NoList}
+use Rattle.grid.specs.declared.Template.{Template}
+use Rattle.grid.proofs.AcceptedExactlyWhen.{all-fits, named, points-listed, follows-accepted}
+
+pub refused-shows-none : (s : List ℕ) (number section place : ℕ) → outcome₃ s ≡ refused number section place → list₃ s ≡ []
+unfolding list₃
+refused-shows-none s number section place e = rw e
+
+-- a list is a section of its own to those who count its octets
+sum-dropped : (end width count : ℕ) (s : List ℕ) → sumOf 0 width (drop end s) count ≡ sumOf end width s count
+unfolding sumOf
+sum-dropped end width zero s = refl
+sum-dropped end width (suc n) s =
+    let at : 0 + 1 + width * n + end ≡ end + 1 + width * n = omega arith in
+    let here = beAt-drop s end (0 + 1 + width * n) width (omega arith) ∙ ap (λ (k : ℕ). beAt s k width) at in
+    λ i. sum-dropped end width n s i + here i
+
+module _ (template : Template) (s : List ℕ) (f : Follows₃ template s) where
+  behind : list₃ s ≡ drop (baseEnd template) s
+  unfolding list₃
+  behind =
+      let t : templateOf s ≡ template = ap templateNumbered (f .names) ∙ named template in
+      rw (follows-accepted template s f, t)
+
+  pub those-very-octets : list₃ s ≡ part s (1 + baseEnd template) (listOctets s)
+  those-very-octets =
+      let rest = drop (baseEnd template) s in
+      let long : length rest ≡ listOctets s = length-drop (baseEnd template) s ∙ omega (arith, all-fits template s (f .list) .whole) in
+      behind ∙ sym (part-all rest) ∙ ap (part rest 1) long ∙ part-drop s (baseEnd template) 1 (listOctets s) (omega arith)
+
+  pub points-are-its-sum : hasList (listWidth s) ≡ true → beAt s 7 4 ≡ sumOf 0 (listWidth s) (list₃ s) (listCount s)
+  points-are-its-sum w =
+      all-fits template s (f .list) .points
+      ∙ points-listed template s w
+      ∙ sym (sum-dropped (baseEnd template) (listWidth s) (listCount s) s)
+      ∙ ap (λ (l : List ℕ). sumOf 0 (listWidth s) l (listCount s)) (sym behind)
+
+  pub without-a-list : NoList template s → list₃ s ≡ []
+  without-a-list n = behind ∙ drop-of-length-le s {i = baseEnd template} (omega (arith, n .whole))

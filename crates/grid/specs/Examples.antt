@@ -1,0 +1,55 @@
+-- Document 01's starred grid: 3.0, Ni missing, Nj = 3, width 2, list 4, 6, 4 has 78 octets and 14 points.
+-- Assumes nothing.
+use Prim.Native.Nat.{ℕ}
+use mathlib.Core.List.{List, [], _∷_, _++_, map}
+use lib.ListN.{length, getD}
+use lib.IntN.{ℤ, pos}
+use Rattle.octets.specs.Octets.{digits, allOnes}
+use Rattle.layout.specs.Fields.{Value, none, missing, is}
+use Rattle.layout.specs.Outcomes.{Outcome, refused, read}
+use Rattle.layout.specs.Examples.{Example}
+use Rattle.grid.specs.Section3.{outcome₃, list₃}
+
+-- octets 1 to 14: length, number, source, points, list width, list interpretation, template number
+abbrev pub exampleHead : List ℕ
+exampleHead = digits 4 78 ++ (3 ∷ 0 ∷ (digits 4 14 ++ (2 ∷ 1 ∷ digits 2 0)))
+
+-- octets 15 to 30: a shape of the earth that needs no numbers
+abbrev pub exampleEarth : List ℕ
+exampleEarth = 6 ∷ digits 15 (allOnes 15)
+
+-- octets 31 to 72: Ni, Nj, basic angle, subdivisions, La1, Lo1, component flags, La2, Lo2, Di, Dj, scanning mode
+abbrev pub exampleMesh : List ℕ
+exampleMesh =
+    digits 4 (allOnes 4)
+    ++ (digits 4 3
+    ++ (digits 4 0
+    ++ (digits 4 (allOnes 4)
+    ++ (digits 4 60000000
+    ++ (digits 4 0
+    ++ (48 ∷ (digits 4 58000000 ++ (digits 4 5000000 ++ (digits 4 (allOnes 4) ++ (digits 4 1000000 ++ (0 ∷ [])))))))))))
+
+abbrev pub exampleList : List ℕ
+exampleList = digits 2 4 ++ (digits 2 6 ++ digits 2 4)
+
+unfoldable pub exampleSection : List ℕ
+exampleSection = exampleHead ++ (exampleEarth ++ (exampleMesh ++ exampleList))
+
+-- the number of points, of a section that is accepted
+abbrev pub pointsIn : Value → List ℤ
+pointsIn none = []
+pointsIn missing = []
+pointsIn (is points) = points ∷ []
+
+abbrev pub pointsRead : Outcome → List ℤ
+pointsRead (refused number section place) = []
+pointsRead (read values) = pointsIn (getD values 3 none)
+
+abbrev pub starredGrids : List Example
+starredGrids =
+    record { made = pos (length exampleSection) ∷ pointsRead (outcome₃ exampleSection); stated = pos 78 ∷ pos 14 ∷ [] }
+    ∷ record {
+      made = map pos (list₃ exampleSection);
+      stated = pos 0 ∷ pos 4 ∷ pos 0 ∷ pos 6 ∷ pos 0 ∷ pos 4 ∷ [];
+    }
+    ∷ []
