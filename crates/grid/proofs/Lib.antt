@@ -5,4 +5,3 @@ pub mod ListShown
 pub mod StarredGrids
 pub mod FieldsByBlock
 pub mod Widths
-pub mod Callers

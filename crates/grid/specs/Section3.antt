@@ -9,6 +9,7 @@ use Rattle.octets.specs.Octets.{beAt, allOnes}
 use Rattle.layout.specs.Fields.{Value, none, is, plain, unsigned, Field, held, shown, between, raw, ranged, signedPresent, optional, count, lacking, tag, after, badPlace, valuesOf}
 use Rattle.layout.specs.Outcomes.{Outcome, refused, read, refusedBy, Reason, reason, badField, firstOf, headReasons}
 use Rattle.layout.specs.Missing.{in8, in32}
+use Rattle.layout.specs.declared.Refusal.{Refusal}
 use Rattle.grid.specs.declared.Template.{Template}
 use Rattle.grid.specs.declared.Template.the-variants.{LatLon, Rotated, Stretched, StretchedAndRotated}
 use Rattle.grid.specs.declared.Scaled.{Scaled}
@@ -247,3 +248,8 @@ valuesIn x =
 unfoldable pub told : Answer → Outcome
 told (Read x) = read (valuesIn x)
 told (Refused x) = refusedBy x
+
+-- the refusal of an answer that is one; of none, zeros
+abbrev pub refusalIn : Answer → Refusal
+refusalIn (Refused x) = x
+refusalIn (Read x) = record { number = 0; section = 0; place = 0 }

@@ -5,7 +5,7 @@ ghost use lib.ListN.{drop};
 ghost use Rattle.octets.specs.Octets.{beAt};
 ghost use Rattle.layout.specs.Fields.{after, badPlace, lowestBad, valuesOf};
 ghost use Rattle.layout.specs.Outcomes.{refused};
-ghost use Rattle.grid.specs.Section3.{outcome₃, asTemplate, fitting, templateNumbered, baseEnd, fields₃, scaled, earth, common, pole, poles, widthAllowed, hasList, isMissing, missingWith, agreedWithoutList, agreedWithList, agreed, listCount, listOctets, total, productAbove, sumOf, pointsOf, values₃, list₃, scaledIn, earthIn, commonIn, poleIn, polesIn, valuesIn, told};
+ghost use Rattle.grid.specs.Section3.{outcome₃, asTemplate, fitting, templateNumbered, baseEnd, fields₃, scaled, earth, common, pole, poles, widthAllowed, hasList, isMissing, missingWith, agreedWithoutList, agreedWithList, agreed, listCount, listOctets, total, productAbove, sumOf, pointsOf, values₃, list₃, scaledIn, earthIn, commonIn, poleIn, polesIn, valuesIn, told, refusalIn};
 use layout::Refusal;
 use layout::U8OrMissing;
 use layout::U32OrMissing;
@@ -139,6 +139,20 @@ pub fn list(section: &[u8]) -> &[u8]
     };
     let template = template_numbered(octets::u16_at(section, 13));
     octets::part_after(section, base_end(template), section.len())
+}
+
+// The refusal of an answer that is one, for a caller to hand on.
+pub fn refusal_of(answer: Answer) -> Refusal
+    ensures { λ r. ⌜ r ≡ refusalIn answer ⌝ }
+{
+    match answer {
+        Answer::Refused(x) => x,
+        Answer::Read(_) => Refusal {
+            number: 0,
+            section: 0,
+            place: 0,
+        },
+    }
 }
 
 fn refusal(number: u8, place: usize) -> Answer

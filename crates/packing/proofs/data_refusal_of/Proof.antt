@@ -2,7 +2,6 @@ use borrow.Author.Needs.{needs}
 use Rattle.packing.proofs.data_refusal_of.Statement.{statement}
 use Rattle.packing.proofs.data_refusal_of.Tie as tie
 
--- src/lib.rt:174:1
 returns-2 : tie.Need-returns-2
 returns-2 c = rw (c .enum-told .given .1)
 

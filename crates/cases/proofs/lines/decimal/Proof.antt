@@ -10,47 +10,36 @@ Inv-loop word value₀ i₀ value i = value ≤ 600000
 abbrev μ-loop : tie.MeasureT-loop
 μ-loop word value₀ i₀ value i = length word - i
 
--- src/lines.rt:44:5
 loop-holds : tie.Need-loop-holds Inv-loop μ-loop
 loop-holds c = omega arith
 
--- src/lines.rt:45:20
 mul-more : tie.Need-mul-more Inv-loop μ-loop
 mul-more c = omega arith
 
--- src/lines.rt:45:39
 shared-slice-read-digit : tie.Need-shared-slice-read-digit Inv-loop μ-loop
 shared-slice-read-digit c = omega arith
 
--- src/lines.rt:45:33
 digit-requires : tie.Need-digit-requires Inv-loop μ-loop
 digit-requires c κs = tt
 
--- src/lines.rt:45:33
 cast-more : tie.Need-cast-more Inv-loop μ-loop
 cast-more c = omega arith
 
--- src/lines.rt:45:20
 add-more : tie.Need-add-more Inv-loop μ-loop
 add-more c = omega arith
 
--- src/lines.rt:47:13
 returns : tie.Need-returns Inv-loop μ-loop
 returns c = omega arith
 
--- src/lines.rt:50:9
 add-i : tie.Need-add-i Inv-loop μ-loop
 add-i c = omega arith
 
--- src/lines.rt:44:5
 loop-less : tie.Need-loop-less Inv-loop μ-loop
 loop-less c = omega arith
 
--- src/lines.rt:44:5
 loop-again : tie.Need-loop-again Inv-loop μ-loop
 loop-again c = omega arith
 
--- src/lines.rt:39:1
 returns-2 : tie.Need-returns-2 Inv-loop μ-loop
 returns-2 c = omega arith
 

@@ -10,31 +10,24 @@ Inv-loop text from byte i₀ i = from ≤ i
 abbrev μ-loop : tie.MeasureT-loop
 μ-loop text from byte i₀ i = length text - i
 
--- src/lines.rt:11:5
 loop-holds : tie.Need-loop-holds Inv-loop μ-loop
 loop-holds c = omega arith
 
--- src/lines.rt:12:12
 shared-slice-read-if1 : tie.Need-shared-slice-read-if1 Inv-loop μ-loop
 shared-slice-read-if1 c = omega arith
 
--- src/lines.rt:13:13
 returns : tie.Need-returns Inv-loop μ-loop
 returns c = omega arith
 
--- src/lines.rt:15:9
 add-i : tie.Need-add-i Inv-loop μ-loop
 add-i c = omega arith
 
--- src/lines.rt:11:5
 loop-less : tie.Need-loop-less Inv-loop μ-loop
 loop-less c = omega arith
 
--- src/lines.rt:11:5
 loop-again : tie.Need-loop-again Inv-loop μ-loop
 loop-again c = omega arith
 
--- src/lines.rt:7:1
 returns-2 : tie.Need-returns-2 Inv-loop μ-loop
 returns-2 c = omega arith
 

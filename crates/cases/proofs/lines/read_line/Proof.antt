@@ -11,55 +11,42 @@ Inv-loop line₀ n₀ line n = (n ≤ length line) × (length line ≡ length li
 abbrev μ-loop : tie.MeasureT-loop
 μ-loop line₀ n₀ line n = length line₀ - n
 
--- src/lines.rt:17:5
 loop-holds : tie.Need-loop-holds Inv-loop μ-loop
 loop-holds c = omega arith
 
--- src/lines.rt:18:13
 read-octet-requires : tie.Need-read-octet-requires Inv-loop μ-loop
 read-octet-requires c κs = tt
 
--- src/lines.rt:20:13
 same-length : tie.Need-same-length Inv-loop μ-loop
 same-length c = omega arith
 
--- src/lines.rt:20:13
 returns : tie.Need-returns Inv-loop μ-loop
 returns c = omega arith
 
--- src/lines.rt:26:13
 same-length-2 : tie.Need-same-length-2 Inv-loop μ-loop
 same-length-2 c = omega arith
 
--- src/lines.rt:26:13
 returns-2 : tie.Need-returns-2 Inv-loop μ-loop
 returns-2 c = omega arith
 
--- src/lines.rt:28:19
 cast-line : tie.Need-cast-line Inv-loop μ-loop
 cast-line c = omega arith
 
--- src/lines.rt:28:9
 slice-write-line : tie.Need-slice-write-line Inv-loop μ-loop
 slice-write-line c = omega arith
 
--- src/lines.rt:29:9
 add-n : tie.Need-add-n Inv-loop μ-loop
 add-n c = omega arith
 
--- src/lines.rt:17:5
 loop-less : tie.Need-loop-less Inv-loop μ-loop
 loop-less c = omega arith
 
--- src/lines.rt:17:5
 loop-again : tie.Need-loop-again Inv-loop μ-loop
 loop-again c = (simp length-set (omega arith), simp length-set (omega arith))
 
--- src/lines.rt:13:1
 same-length-3 : tie.Need-same-length-3 Inv-loop μ-loop
 same-length-3 c = omega arith
 
--- src/lines.rt:13:1
 returns-3 : tie.Need-returns-3 Inv-loop μ-loop
 returns-3 c = omega arith
 

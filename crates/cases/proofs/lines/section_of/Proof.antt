@@ -3,11 +3,9 @@ use borrow.Author.Needs.{needs}
 use Rattle.cases.proofs.lines.section_of.Statement.{statement}
 use Rattle.cases.proofs.lines.section_of.Tie as tie
 
--- src/lines.rt:30:24
 sub-decimal : tie.Need-sub-decimal
 sub-decimal c = omega (arith, c .next2 .ensures .1 (omega arith))
 
--- src/lines.rt:30:24
 part-decimal-start : tie.Need-part-decimal-start
 part-decimal-start c = omega (arith, c .next2 .ensures .1 (omega arith))
 

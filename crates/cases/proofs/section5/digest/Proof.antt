@@ -10,43 +10,33 @@ Inv-loop row sum₀ i₀ sum i = sum < 2 ^ 32
 abbrev μ-loop : tie.MeasureT-loop
 μ-loop row sum₀ i₀ sum i = length row - i
 
--- src/section5.rt:68:5
 loop-holds : tie.Need-loop-holds Inv-loop μ-loop
 loop-holds c = omega arith
 
--- src/section5.rt:69:16
 mul-sum : tie.Need-mul-sum Inv-loop μ-loop
 mul-sum c = omega arith
 
--- src/section5.rt:69:32
 mul-wide : tie.Need-mul-wide Inv-loop μ-loop
 mul-wide c = omega arith
 
--- src/section5.rt:69:32
 shared-slice-read-wide : tie.Need-shared-slice-read-wide Inv-loop μ-loop
 shared-slice-read-wide c = omega arith
 
--- src/section5.rt:69:27
 wide-requires : tie.Need-wide-requires Inv-loop μ-loop
 wide-requires c κs = tt
 
--- src/section5.rt:69:16
 add-sum : tie.Need-add-sum Inv-loop μ-loop
 add-sum c = omega arith
 
--- src/section5.rt:70:9
 add-i : tie.Need-add-i Inv-loop μ-loop
 add-i c = omega arith
 
--- src/section5.rt:68:5
 loop-less : tie.Need-loop-less Inv-loop μ-loop
 loop-less c = omega arith
 
--- src/section5.rt:68:5
 loop-again : tie.Need-loop-again Inv-loop μ-loop
 loop-again c = omega arith
 
--- src/section5.rt:65:1
 returns : tie.Need-returns Inv-loop μ-loop
 returns c = tt
 

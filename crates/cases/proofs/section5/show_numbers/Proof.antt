@@ -10,43 +10,33 @@ Inv-loop row i₀ t3 i = Unit {0}
 abbrev μ-loop : tie.MeasureT-loop
 μ-loop row i₀ t3 i = length row - i
 
--- src/section5.rt:52:5
 loop-holds : tie.Need-loop-holds Inv-loop μ-loop
 loop-holds c = tt
 
--- src/section5.rt:53:23
 slice-aggregate-number : tie.Need-slice-aggregate-number Inv-loop μ-loop
 slice-aggregate-number c = omega arith
 
--- src/section5.rt:53:33
 mul-wide : tie.Need-mul-wide Inv-loop μ-loop
 mul-wide c = omega arith
 
--- src/section5.rt:53:33
 shared-slice-read-wide : tie.Need-shared-slice-read-wide Inv-loop μ-loop
 shared-slice-read-wide c = omega arith
 
--- src/section5.rt:53:28
 wide-requires : tie.Need-wide-requires Inv-loop μ-loop
 wide-requires c κs = tt
 
--- src/section5.rt:53:9
 number-requires : tie.Need-number-requires Inv-loop μ-loop
 number-requires c κs = tt
 
--- src/section5.rt:54:9
 add-i : tie.Need-add-i Inv-loop μ-loop
 add-i c = omega arith
 
--- src/section5.rt:52:5
 loop-less : tie.Need-loop-less Inv-loop μ-loop
 loop-less c = omega arith
 
--- src/section5.rt:52:5
 loop-again : tie.Need-loop-again Inv-loop μ-loop
 loop-again c = tt
 
--- src/section5.rt:50:1
 returns : tie.Need-returns Inv-loop μ-loop
 returns c = tt
 
