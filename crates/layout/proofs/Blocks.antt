@@ -86,6 +86,9 @@ none-bad (p ∷ ps) s h = rw (h .0) (none-bad ps s (h .1))
 pub moved : (end j : ℕ) (fs : List Field) (s : List ℕ) → valuesOf (after (end + j) fs) s ≡ valuesOf (placed end (j + 1) fs) s
 moved end j fs s = rw placed-shift
 
+pub bad-moved : (end j : ℕ) (fs : List Field) (s : List ℕ) (later : ℕ) → lowestBad (after (end + j) fs) s later ≡ lowestBad (placed end (j + 1) fs) s later
+bad-moved end j fs s later = rw placed-shift
+
 -- fields of a part that starts in the middle of the section
 values-dropped : (end j k : ℕ) (fs : List Field) (s : List ℕ) → 1 ≤ k → valuesOf (placed end k fs) (drop j s) ≡ valuesOf (placed (end + j) k fs) s
 unfolding valuesOf placed

@@ -1,0 +1,3 @@
+pub mod Blocks
+pub mod Section4
+pub mod Views
