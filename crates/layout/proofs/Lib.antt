@@ -2,3 +2,4 @@ pub mod Blocks
 pub mod Outcomes
 pub mod Ranges
 pub mod Untold
+pub mod Shown

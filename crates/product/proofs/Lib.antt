@@ -1,2 +1,4 @@
 pub mod Templates
 pub mod Callers
+pub mod StarredProducts
+pub mod FieldsCoverOnce
