@@ -49,7 +49,7 @@ pub record EndKept (p : ℕ) (s : List ℕ) : Type 0 where
   pub hour : beAt s (p - 3) 1 ≤ 23
   pub minute : beAt s (p - 2) 1 ≤ 59
   pub second : beAt s (p - 1) 1 ≤ 59
-  pub ranges : 1 ≤ beAt s p 1
+  pub ranges : beAt s p 1 ≡ 0 → ⊥
 
 -- where the template has time ranges
 abbrev pub IntervalKept : Bool → ℕ → List ℕ → Type 0

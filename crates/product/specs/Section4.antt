@@ -123,6 +123,9 @@ fieldsIn kind timed s = fields₄ kind timed (rangesAt kind timed s) (membersAt 
 abbrev pub totalIn : PartKind → Bool → List ℕ → ℕ
 totalIn kind timed s = total kind timed (rangesAt kind timed s) (membersAt kind s) (coordinatesAt s)
 
+abbrev pub values₄ : PartKind → Bool → List ℕ → List Value
+values₄ kind timed s = valuesOf (after 0 (fieldsIn kind timed s)) s
+
 -- ---- the outcome
 
 -- 7, 8, 9 and 11, once the template is known; the smallest total has n = 1 and no members and coordinates
@@ -135,8 +138,7 @@ templateReasons kind timed s =
     ∷ []
 
 unfoldable pub asTemplate : PartKind → Bool → List ℕ → Outcome
-asTemplate kind timed s =
-    firstOf 4 (templateReasons kind timed s) (read (valuesOf (after 0 (fieldsIn kind timed s)) s))
+asTemplate kind timed s = firstOf 4 (templateReasons kind timed s) (read (values₄ kind timed s))
 
 -- 6: the template is not listed
 unfoldable pub byTemplate : Template → List ℕ → Outcome

@@ -1,13 +1,13 @@
 // Section 4: the product, by templates 4.0, 4.1, 4.4, 4.5, 4.8, 4.9, 4.11, 4.14 and 4.46. A template is a run of blocks, and each
 // block is read wherever it starts: `end` is the octet after which it stands. Every function takes every input.
 ghost use mathlib.Core.Path.{_≡_};
+ghost use mathlib.Core.List.{_∷_, []};
 ghost use mathlib.Core.Bool.{cond, _&&_};
 ghost use lib.Dec.{eqb};
-ghost use Rattle.layout.specs.Fields.{after, badPlace, lowestBad, valuesOf, none};
-ghost use mathlib.Core.List.{_∷_, []};
+ghost use Rattle.layout.specs.Fields.{none, after, badPlace, valuesOf};
 ghost use Rattle.layout.specs.Outcomes.{refused};
 ghost use Rattle.product.specs.Blocks.{parameter, process, forecast, scaled, surface, ensemble, cluster, probability, aerosol, interval, parameterIn, processIn, forecastIn, scaledIn, surfaceIn, ensembleIn, clusterIn, probabilityIn, aerosolIn, endIn, intervalIn};
-ghost use Rattle.product.specs.Section4.{templateOf, frontEnd, partEnd, rangesEnd, total, rangesAt, membersAt, fieldsIn, asTemplate, outcome₄, PartSays, valuesIn, told};
+ghost use Rattle.product.specs.Section4.{templateOf, frontEnd, partEnd, rangesEnd, total, rangesAt, membersAt, fieldsIn, values₄, asTemplate, outcome₄, PartSays, valuesIn, told};
 ghost use Rattle.product.specs.Views.{templateRead, rangeOf, membersOf, coordinatesOf};
 use layout::I32OrMissing;
 use layout::Refusal;
@@ -314,7 +314,7 @@ fn bad_end(section: &[u8], end: u16) -> usize
 // ---- the record of a section that follows its template
 
 fn record_of(section: &[u8], kind: PartKind, timed: bool) -> Product
-    ensures { λ r. ⌜ valuesIn r ≡ valuesOf (after 0 (fieldsIn kind timed (now (section .entry)))) (now (section .entry)) ⌝ }
+    ensures { λ r. ⌜ valuesIn r ≡ values₄ kind timed (now (section .entry)) ⌝ }
 {
     let end = front_end(kind);
     Product {
