@@ -8,11 +8,10 @@ use lib.IntN.{natAbs}
 use Rattle.layout.specs.Fields.{Value, none, missing, is}
 use Rattle.layout.specs.Outcomes.{Outcome, refused, read}
 use Rattle.layout.specs.Time.{timeIn}
-use Rattle.layout.proofs.Untold.{int, nat, to16, back16, toSigned, backSigned}
+use Rattle.layout.proofs.Untold.{int, nat, to16, back16, toSigned, backSigned, toTime, told-back}
 use Rattle.product.specs.Blocks.{parameterIn, processIn, forecastIn, scaledIn, surfaceIn, ensembleIn, clusterIn, probabilityIn, aerosolIn, endIn, intervalIn}
 use Rattle.product.specs.Section4.{tagIn, aheadIn, behindIn, valuesIn, told, outcome₄}
 use Rattle.product.specs.declared.Process.{Process}
-use Rattle.product.specs.declared.Forecast.{Forecast}
 use Rattle.product.specs.declared.Scaled.{Scaled}
 use Rattle.product.specs.declared.Surface.{Surface}
 use Rattle.product.specs.declared.Part.{Part}
@@ -70,14 +69,7 @@ toInterval vs = by (getD vs 0 none)
         Ends
         (record {
           year = natAbs year;
-          time =
-              record {
-                month = nat (getD vs 1 none);
-                day = nat (getD vs 2 none);
-                hour = nat (getD vs 3 none);
-                minute = nat (getD vs 4 none);
-                second = nat (getD vs 5 none);
-              };
+          time = toTime vs 1;
           ranges = nat (getD vs 6 none);
           missing = nat (getD vs 7 none);
         })
@@ -244,4 +236,4 @@ back (Refused x) = refl
 back (Read x) = ap Read (product-back x)
 
 pub determined : (s : List ℕ) (a b : Answer) → told a ≡ outcome₄ s → told b ≡ outcome₄ s → a ≡ b
-determined s a b p q = sym (back a) ∙ ap untold (p ∙ sym q) ∙ back b
+determined s a b p q = told-back told untold back a b (p ∙ sym q)

@@ -128,14 +128,19 @@ values₄ kind timed s = valuesOf (after 0 (fieldsIn kind timed s)) s
 
 -- ---- the outcome
 
--- 7, 8, 9 and 11, once the template is known; the smallest total has n = 1 and no members and coordinates
+-- 9 and 11: n is 0, the total differs
+abbrev pub countReasons : PartKind → Bool → List ℕ → List Reason
+countReasons kind timed s =
+    reason 9 (timed && eqb (rangesAt kind timed s) 0)
+    ∷ reason 11 (not (eqb (length s) (totalIn kind timed s)))
+    ∷ []
+
+-- before them 7 and 8, once the template is known; the smallest total has n = 1, no member and no coordinate
 abbrev pub templateReasons : PartKind → Bool → List ℕ → List Reason
 templateReasons kind timed s =
     reason 7 (ltb (length s) (total kind timed 1 0 0))
     ∷ badField (badPlace (after 0 (fieldsIn kind timed s)) s)
-    ∷ reason 9 (timed && eqb (rangesAt kind timed s) 0)
-    ∷ reason 11 (not (eqb (length s) (totalIn kind timed s)))
-    ∷ []
+    ∷ countReasons kind timed s
 
 unfoldable pub asTemplate : PartKind → Bool → List ℕ → Outcome
 asTemplate kind timed s = firstOf 4 (templateReasons kind timed s) (read (values₄ kind timed s))

@@ -5,9 +5,9 @@ ghost use mathlib.Core.List.{_∷_, []};
 ghost use mathlib.Core.Bool.{cond, _&&_};
 ghost use lib.Dec.{eqb};
 ghost use Rattle.layout.specs.Fields.{none, after, badPlace, valuesOf};
-ghost use Rattle.layout.specs.Outcomes.{refused};
+ghost use Rattle.layout.specs.Outcomes.{refused, read, firstOf};
 ghost use Rattle.product.specs.Blocks.{parameter, process, forecast, scaled, surface, ensemble, cluster, probability, aerosol, interval, parameterIn, processIn, forecastIn, scaledIn, surfaceIn, ensembleIn, clusterIn, probabilityIn, aerosolIn, endIn, intervalIn};
-ghost use Rattle.product.specs.Section4.{templateOf, frontEnd, partEnd, rangesEnd, total, rangesAt, membersAt, fieldsIn, values₄, asTemplate, outcome₄, PartSays, valuesIn, told};
+ghost use Rattle.product.specs.Section4.{templateOf, frontEnd, partEnd, rangesEnd, total, rangesAt, membersAt, fieldsIn, values₄, countReasons, asTemplate, outcome₄, PartSays, valuesIn, told};
 ghost use Rattle.product.specs.Views.{templateRead, rangeOf, membersOf, coordinatesOf};
 use layout::I32OrMissing;
 use layout::Refusal;
@@ -179,6 +179,13 @@ fn read_as(section: &[u8], kind: PartKind, timed: bool) -> Answer
     if bad != 0 {
         return refusal(8, bad);
     }
+    read_counted(section, kind, timed)
+}
+
+// The tests of n and of the total, once every field is in its range.
+fn read_counted(section: &[u8], kind: PartKind, timed: bool) -> Answer
+    ensures { λ r. ⌜ told r ≡ firstOf 4 (countReasons kind timed (now (section .entry))) (read (values₄ kind timed (now (section .entry)))) ⌝ }
+{
     let ranges = range_count(section, kind, timed);
     if lacks_ranges(timed, ranges) {
         return refusal(9, 0);
