@@ -8,6 +8,7 @@ ghost use lib.ListN.{length};
 
 mod lines;
 mod section1;
+mod section4;
 mod section5;
 
 fn main() {
@@ -52,6 +53,8 @@ fn run_case(line: &[u8], section: u8) {
     let n = io::count(size as isize, &octets);
     if section == b'1' {
         section1::show(&octets[..n]);
+    } else if section == b'4' {
+        section4::show(&octets[..n]);
     } else if section == b'5' {
         section5::show(&octets[..n]);
     } else {
