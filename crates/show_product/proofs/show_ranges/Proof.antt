@@ -1,7 +1,7 @@
 use Prim.Native.Nat.{_-_}
 use borrow.Author.Needs.{needs}
-use Rattle.cases.proofs.section4.show_ranges.Statement.{statement}
-use Rattle.cases.proofs.section4.show_ranges.Tie as tie
+use Rattle.show_product.proofs.show_ranges.Statement.{statement}
+use Rattle.show_product.proofs.show_ranges.Tie as tie
 
 abbrev Inv-loop : tie.InvT-loop
 Inv-loop section n k₀ k = Unit {0}

@@ -1,8 +1,8 @@
 use Prim.Native.Nat.{_-_}
 use lib.ListN.{length}
 use borrow.Author.Needs.{needs}
-use Rattle.cases.proofs.lines.hexadecimal.Statement.{statement}
-use Rattle.cases.proofs.lines.hexadecimal.Tie as tie
+use Rattle.output.proofs.hexadecimal.Statement.{statement}
+use Rattle.output.proofs.hexadecimal.Tie as tie
 
 abbrev Inv-loop : tie.InvT-loop
 Inv-loop part i₀ i = Unit {0}
