@@ -3,11 +3,11 @@
 use Prim.Native.Nat.{ℕ, _+_, _*_, _≤_}
 use native.Mathlib.Nat.{zero-add}
 use native.Mathlib.Omega.{arith}
-use mathlib.Core.Path.{_≡_, refl}
+use mathlib.Core.Path.{_≡_, refl, _∙_}
 use mathlib.Core.List.{List, [], _∷_, _++_}
 use mathlib.Core.Bool.{Bool, true, false, cond}
 use Rattle.octets.specs.Octets.{part}
-use Rattle.layout.specs.Fields.{none, plain, widthOf, placed, after, lowestBad, badPlace, valuesOf}
+use Rattle.layout.specs.Fields.{Value, none, plain, widthOf, placed, after, lowestBad, badPlace, valuesOf}
 use Rattle.layout.specs.Shown.{shownOf}
 use Rattle.layout.specs.Time.{time}
 use Rattle.layout.proofs.Blocks.{width-append, values-meet, bad-meet, moved}
@@ -83,6 +83,19 @@ tail-shows kind true n nc nv s =
 tail-shows kind false n nc nv s =
     let coordinates : partEnd kind + (1 + nc) ≡ partEnd kind + nc + 1 = omega arith in
     rw coordinates
+
+-- ---- blocks made of blocks
+
+-- the fields that every template has
+pub common-values : (end : ℕ) (s : List ℕ) {ps fs xs ys : List Value} → ps ≡ valuesOf (after end process) s → fs ≡ valuesOf (after (end + 6) forecast) s → xs ≡ valuesOf (after (end + 11) surface) s → ys ≡ valuesOf (after (end + 17) surface) s → ps ++ (fs ++ (xs ++ ys)) ≡ valuesOf (after end common) s
+unfolding valuesOf placed common process forecast surface scaled
+common-values end s p f x y =
+    λ i. p i ++ ((f ∙ moved end 6 forecast s) i ++ ((x ∙ moved end 11 surface s) i ++ (y ∙ moved end 17 surface s) i))
+
+-- two numbers with scale factors, as limits and sizes are: 3 octets after the start of their part
+pub both-scaled : (end : ℕ) (s : List ℕ) {xs ys : List Value} → xs ≡ valuesOf (after (end + 3) scaled) s → ys ≡ valuesOf (after (end + 8) scaled) s → xs ++ ys ≡ valuesOf (placed end 4 (scaled ++ scaled)) s
+unfolding valuesOf placed scaled
+both-scaled end s p q = λ i. (p ∙ moved end 3 scaled s) i ++ (q ∙ moved end 8 scaled s) i
 
 -- ---- every template
 

@@ -200,7 +200,7 @@ fn read_counted(section: &[u8], kind: PartKind, timed: bool) -> Answer
 
 // ---- the templates
 
-pub fn template_of(number: u16) -> Template
+fn template_of(number: u16) -> Template
     ensures { λ r. ⌜ r ≡ templateOf number ⌝ }
 {
     match number {

@@ -1,9 +1,8 @@
 use Rattle.octets.proofs.Free.{free}
-use mathlib.Core.List.{_∷_, _++_}
-use mathlib.Core.Path.{_∙_}
+use mathlib.Core.List.{_∷_}
 use Rattle.layout.specs.Fields.{valuesOf, placed, plain}
-use Rattle.layout.proofs.Blocks.{moved}
 use denote.Ref.{now}
+use Rattle.product.proofs.Templates.{both-scaled}
 use Rattle.product.specs.Blocks.{scaled, aerosol, aerosolIn}
 use borrow.Author.Needs.{needs}
 use Rattle.product.proofs.read_aerosol.Statement.{statement}
@@ -13,11 +12,9 @@ returns : tie.Need-returns
 unfolding valuesOf placed aerosol scaled aerosolIn
 returns c =
     let a = c .before .before .before .before .before .args in
-    let s = now (a .section) in
     λ i. plain (c .before .before .before .u16-at .ensures i)
     ∷ plain (c .before .before .u8-at .ensures i)
-    ∷ ((c .before .read-scaled .ensures ∙ moved (a .end) 3 scaled s) i
-    ++ (c .read-scaled2 .ensures ∙ moved (a .end) 8 scaled s) i)
+    ∷ both-scaled (a .end) (now (a .section)) (c .before .read-scaled .ensures) (c .read-scaled2 .ensures) i
 
 pub read-aerosol-spec : {M : Type 1} → statement M
 read-aerosol-spec =
