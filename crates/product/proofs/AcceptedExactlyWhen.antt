@@ -5,14 +5,14 @@ use Prim.Native.Nat.{ℕ, zero, suc, _+_, _-_, _*_, _≤_}
 use native.Mathlib.Omega.{arith}
 use mathlib.Core.Path.{_≡_, refl, ap, sym, _∙_}
 use mathlib.Core.Logic.{_↔_}
-use mathlib.Core.List.{List, [], _∷_}
+use mathlib.Core.List.{List}
 use mathlib.Core.Bool.{Bool, true, false, cond, _&&_}
 use lib.ListN.{length}
-use lib.Dec.{ltb, eqb}
+use lib.Dec.{eqb}
 use borrow.Author.Tests.{le-ltb, ltb-false, ne-eqb, eqb-false}
 use Rattle.octets.specs.Octets.{beAt}
 use Rattle.layout.specs.Fields.{Value, after, placed, badPlace, AllAllowed}
-use Rattle.layout.specs.Outcomes.{Outcome, read, firstOf, headReasons}
+use Rattle.layout.specs.Outcomes.{read, firstOf, headReasons}
 use Rattle.layout.specs.Time.{time}
 use Rattle.layout.proofs.Blocks.{bad-clear, bad-none, clear-bad, none-bad}
 use Rattle.layout.proofs.Outcomes.{NoneHold, read-none, none-last}

@@ -6,26 +6,21 @@ use native.Mathlib.Omega.{arith}
 use mathlib.Core.Path.{_≡_, refl, ap, sym, _∙_}
 use mathlib.Core.List.{List, [], _∷_, _++_}
 use mathlib.Core.Bool.{Bool, true, false, cond}
-use lib.ListN.{length, take, drop, length-take, length-drop}
+use lib.ListN.{length, length-take, length-drop}
 use borrow.Author.Tests.{lt-ltb, le-ltb}
-use Rattle.octets.specs.Octets.{beAt, part}
+use Rattle.octets.specs.Octets.{part}
 use Rattle.octets.proofs.Laws.{part-add, part-take}
-use Rattle.layout.specs.Fields.{Value, after}
+use Rattle.layout.specs.Fields.{after}
 use Rattle.layout.specs.Shown.{shownOf}
-use Rattle.layout.specs.Outcomes.{refused, read}
-use Rattle.product.specs.Section4.{templateOf, partEnd, rangesEnd, total, rangesAt, membersAt, coordinatesAt, fieldsIn, totalIn, outcome₄}
-use Rattle.product.specs.Views.{ifRead, templateRead, rangeBy, membersBy, coordinatesBy, rangeOf, membersOf, coordinatesOf}
+use Rattle.layout.specs.Outcomes.{refused}
+use Rattle.product.specs.Section4.{partEnd, rangesEnd, total, rangesAt, membersAt, coordinatesAt, fieldsIn, totalIn, outcome₄}
+use Rattle.product.specs.Views.{ifRead, templateRead, rangeBy, membersBy, coordinatesBy, rangeOf, membersOf, coordinatesOf, strung}
 use Rattle.product.specs.Accepted.{Follows₄}
 use Rattle.product.specs.declared.PartKind.{PartKind}
 use Rattle.product.specs.declared.Template.{Template}
-use Rattle.product.specs.declared.Template.the-variants.{NotListed, Listed}
+use Rattle.product.specs.declared.Template.the-variants.{Listed}
 use Rattle.product.proofs.Templates.{shown-are}
 use Rattle.product.proofs.AcceptedExactlyWhen.{follows-accepted, follows-total}
-
--- the first m of some lists, strung together
-unfoldable pub strung : (ℕ → List ℕ) → ℕ → List ℕ
-strung lists zero = []
-strung lists (suc m) = strung lists m ++ lists m
 
 -- ---- a section that is read
 

@@ -1,7 +1,7 @@
 -- Document 01's starred sections 4: what the outcome says of them.
 -- Assumes nothing.
 use Prim.Native.Nat.{ℕ, _-_}
-use mathlib.Core.List.{List, [], _∷_, _++_}
+use mathlib.Core.List.{List, [], _∷_}
 use lib.ListN.{set, replicate}
 use lib.IntN.{ℤ, pos}
 use Rattle.layout.specs.Outcomes.{Outcome, refused, read}

@@ -1,7 +1,7 @@
 -- What a caller is shown of a section 4: a time range, the members, the coordinates, as those very octets of the section.
 -- Assumes nothing.
-use Prim.Native.Nat.{ℕ, _+_, _*_}
-use mathlib.Core.List.{List, []}
+use Prim.Native.Nat.{ℕ, zero, suc, _+_, _*_}
+use mathlib.Core.List.{List, [], _++_}
 use mathlib.Core.Bool.{cond}
 use lib.ListN.{take, drop}
 use lib.Dec.{ltb}
@@ -43,3 +43,8 @@ membersOf s = membersBy (templateRead s) s
 
 abbrev pub coordinatesOf : List ℕ → List ℕ
 coordinatesOf s = coordinatesBy (templateRead s) s
+
+-- the first m of some lists, strung together
+unfoldable pub strung : (ℕ → List ℕ) → ℕ → List ℕ
+strung lists zero = []
+strung lists (suc m) = strung lists m ++ lists m

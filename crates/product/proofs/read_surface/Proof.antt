@@ -4,7 +4,7 @@ use mathlib.Core.Path.{_∙_}
 use Rattle.layout.specs.Fields.{valuesOf, placed, plain}
 use Rattle.layout.proofs.Blocks.{moved}
 use denote.Ref.{now}
-use Rattle.product.specs.Blocks.{scaled, surface, scaledIn, surfaceIn}
+use Rattle.product.specs.Blocks.{scaled, surface, surfaceIn}
 use borrow.Author.Needs.{needs}
 use Rattle.product.proofs.read_surface.Statement.{statement}
 use Rattle.product.proofs.read_surface.Tie as tie
