@@ -14,6 +14,12 @@ def signed(s, first, last):
     return raw if raw < top else -(raw - top)
 
 
+def shown(name, octets):
+    """A list that a caller is shown: its octets, of which a long one's middle is left out."""
+    text = octets.hex() if len(octets) <= 40 else octets[:24].hex() + ".." + octets[-12:].hex()
+    return f"{name} {len(octets)} {text}"
+
+
 def refused(no, place=0):
     return f"refused number {no} section 1 place {place}"
 

@@ -1,5 +1,5 @@
 """Section 3 by document 01: a model of its own, and cases on both sides of every rule."""
-from section1 import number, signed, sized
+from section1 import number, signed, sized, shown
 
 READER = 3
 
@@ -10,7 +10,7 @@ POLES = {0: {}, 1: {"rotated": 73}, 2: {"stretched": 73}, 3: {"rotated": 73, "st
 
 
 def refused(no, place=0):
-    return f"refused number {no} section 3 place {place} list 0"
+    return f"refused number {no} section 3 place {place} " + shown("list", b"")
 
 
 def four(s, at):
@@ -92,11 +92,7 @@ def read(s, template):
         at = POLES[template].get(name)
         words += [f"not {name}" if at is None else
                   f"{name} latitude {signed(s, at, at + 3)} longitude {signed(s, at + 4, at + 7)} angle_or_factor {four(s, at + 8)}"]
-    shown = s[END[template]:]
-    words += [f"list {len(shown)}"]
-    while len(shown) > 1 and shown[-1] == shown[-2]:
-        shown = shown[:-1]
-    return " ".join(words + ([shown.hex()] if shown else []))
+    return " ".join(words + [shown("list", s[END[template]:])])
 
 
 def section(template=0, ni=4, nj=3, points=None, width=0, interpretation=None, numbers=(), **octets):

@@ -8,7 +8,6 @@ ghost use lib.ListN.{length};
 
 mod lines;
 mod section1;
-mod section3;
 mod section5;
 
 fn main() {
@@ -36,11 +35,11 @@ fn run_line(line: &[u8]) {
     }
     let section = line[0];
     if section == b'#' {
-        lines::text(line);
+        output::text(line);
     } else {
         run_case(line, section);
     }
-    lines::text(b"\n");
+    output::text(b"\n");
 }
 
 fn run_case(line: &[u8], section: u8) {
@@ -54,11 +53,13 @@ fn run_case(line: &[u8], section: u8) {
     if section == b'1' {
         section1::show(&octets[..n]);
     } else if section == b'3' {
-        section3::show(&octets[..n]);
+        show_grid::show(&octets[..n]);
+    } else if section == b'4' {
+        show_product::show(&octets[..n]);
     } else if section == b'5' {
         section5::show(&octets[..n]);
     } else {
-        lines::text(b"no such reader");
+        output::text(b"no such reader");
     }
 }
 

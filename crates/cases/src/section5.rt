@@ -1,6 +1,5 @@
 // Sections 5 and 7: the record of section 5, and the row that the two unpack into.
 ghost use Prim.Native.Nat.{_<_, _^_};
-use crate::lines;
 use packing::Answer;
 use packing::Packing;
 use packing::Unpacked;
@@ -9,21 +8,21 @@ pub(crate) fn show(section: &[u8]) {
     let answer = packing::read(section);
     match answer {
         Answer::Read(x) => show_packing(x),
-        Answer::Refused(x) => lines::refusal(x),
+        Answer::Refused(x) => output::refusal(x),
     }
 }
 
 fn show_packing(x: Packing) {
-    lines::text(b"read");
-    lines::number(b"length", x.length as u64);
-    lines::number(b"number", x.number as u64);
-    lines::number(b"values", x.values as u64);
-    lines::number(b"template", x.template as u64);
-    lines::number(b"reference", x.reference as u64);
-    lines::signed(b"binary_scale", x.binary_scale);
-    lines::signed(b"decimal_scale", x.decimal_scale);
-    lines::number(b"bits", x.bits as u64);
-    lines::number(b"value_type", x.value_type as u64);
+    output::text(b"read");
+    output::number(b"length", x.length as u64);
+    output::number(b"number", x.number as u64);
+    output::number(b"values", x.values as u64);
+    output::number(b"template", x.template as u64);
+    output::number(b"reference", x.reference as u64);
+    output::signed(b"binary_scale", x.binary_scale);
+    output::signed(b"decimal_scale", x.decimal_scale);
+    output::number(b"bits", x.bits as u64);
+    output::number(b"value_type", x.value_type as u64);
 }
 
 // Unpacks into the first `size` places of the row, or as many as it has, and shows them.
@@ -34,23 +33,23 @@ pub(crate) fn show_row(section5: &[u8], section7: &[u8], row: &mut [u32], size: 
     let answer = packing::unpack(section5, section7, &mut row[0..size]);
     match answer {
         Unpacked::Written(n) => {
-            lines::text(b"read");
-            lines::number(b"values", n as u64);
+            output::text(b"read");
+            output::number(b"values", n as u64);
         }
-        Unpacked::Refused(x) => lines::refusal(x),
+        Unpacked::Refused(x) => output::refusal(x),
     }
-    lines::text(b" row");
+    output::text(b" row");
     if size <= 8 {
         show_numbers(&row[0..size]);
     } else {
-        lines::number(b"digest", digest(&row[0..size]));
+        output::number(b"digest", digest(&row[0..size]));
     }
 }
 
 fn show_numbers(row: &[u32]) {
     let mut i = 0;
     while i < row.len() {
-        lines::number(b"", wide(row[i]));
+        output::number(b"", wide(row[i]));
         i += 1;
     }
 }

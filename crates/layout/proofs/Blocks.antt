@@ -68,23 +68,32 @@ covers fs s e = octets-from 0 1 fs s ∙ ap (part s 1) (sym e) ∙ part-all s
 
 -- ---- no field is out of its range
 
-pub bad-none : (end k : ℕ) (fs : List Field) (s : List ℕ) → 1 ≤ k → badPlace (placed end k fs) s ≡ 0 → AllAllowed (placed end k fs) s
+pub bad-clear : (end k : ℕ) (fs : List Field) (s : List ℕ) (later : ℕ) → 1 ≤ k → lowestBad (placed end k fs) s later ≡ 0 → AllAllowed (placed end k fs) s × (later ≡ 0)
 unfolding lowestBad AllAllowed placed
-bad-none end k [] s h e = tt
-bad-none end k (f ∷ fs) s h e = by-cases (allowed f (beAt s (end + k) (width f))) refl e (bad-none end (k + width f) fs s (omega arith))
+bad-clear end k [] s later h e = (tt, e)
+bad-clear end k (f ∷ fs) s later h e = by-cases (allowed f (beAt s (end + k) (width f))) refl e (bad-clear end (k + width f) fs s later (omega arith))
   where
-    by-cases : (t : Bool) → allowed f (beAt s (end + k) (width f)) ≡ t → cond t (lowestBad (placed end (k + width f) fs) s 0) (end + k) ≡ 0 → (badPlace (placed end (k + width f) fs) s ≡ 0 → AllAllowed (placed end (k + width f) fs) s) → (allowed f (beAt s (end + k) (width f)) ≡ true) × AllAllowed (placed end (k + width f) fs) s
-    by-cases true q e rest = (q, rest e)
+    by-cases : (t : Bool) → allowed f (beAt s (end + k) (width f)) ≡ t → cond t (lowestBad (placed end (k + width f) fs) s later) (end + k) ≡ 0 → (lowestBad (placed end (k + width f) fs) s later ≡ 0 → AllAllowed (placed end (k + width f) fs) s × (later ≡ 0)) → ((allowed f (beAt s (end + k) (width f)) ≡ true) × AllAllowed (placed end (k + width f) fs) s) × (later ≡ 0)
+    by-cases true q e rest = let p = rest e in ((q, p .0), p .1)
     by-cases false q e rest = absurd (omega arith)
 
-pub none-bad : (ps : List FieldAt) (s : List ℕ) → AllAllowed ps s → badPlace ps s ≡ 0
+pub clear-bad : (ps : List FieldAt) (s : List ℕ) (later : ℕ) → AllAllowed ps s → lowestBad ps s later ≡ later
 unfolding lowestBad AllAllowed
-none-bad [] s h = refl
-none-bad (p ∷ ps) s h = rw (h .0) (none-bad ps s (h .1))
+clear-bad [] s later h = refl
+clear-bad (p ∷ ps) s later h = rw (h .0) (clear-bad ps s later (h .1))
+
+pub bad-none : (end k : ℕ) (fs : List Field) (s : List ℕ) → 1 ≤ k → badPlace (placed end k fs) s ≡ 0 → AllAllowed (placed end k fs) s
+bad-none end k fs s h e = bad-clear end k fs s 0 h e .0
+
+pub none-bad : (ps : List FieldAt) (s : List ℕ) → AllAllowed ps s → badPlace ps s ≡ 0
+none-bad ps s h = clear-bad ps s 0 h
 
 -- a block that follows an octet after `end`, as it stands in a run that follows `end`
 pub moved : (end j : ℕ) (fs : List Field) (s : List ℕ) → valuesOf (after (end + j) fs) s ≡ valuesOf (placed end (j + 1) fs) s
 moved end j fs s = rw placed-shift
+
+pub bad-moved : (end j : ℕ) (fs : List Field) (s : List ℕ) (later : ℕ) → lowestBad (after (end + j) fs) s later ≡ lowestBad (placed end (j + 1) fs) s later
+bad-moved end j fs s later = rw placed-shift
 
 -- fields of a part that starts in the middle of the section
 values-dropped : (end j k : ℕ) (fs : List Field) (s : List ℕ) → 1 ≤ k → valuesOf (placed end k fs) (drop j s) ≡ valuesOf (placed (end + j) k fs) s

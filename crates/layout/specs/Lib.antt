@@ -3,3 +3,4 @@ pub mod Outcomes
 pub mod Missing
 pub mod Time
 pub mod Examples
+pub mod Shown

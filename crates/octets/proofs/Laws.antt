@@ -6,8 +6,8 @@ use Prim.Native.Nat.{ℕ, zero, suc, _+_, _-_, _*_, _^_, _≤_, _<_}
 use native.Mathlib.Nat.{zero-mul, zero-add, add-assoc, add-mul, mul-assoc, pow-succ', mul-le-mul-right, mul-le-mul-left, le-of-lt, le-antisymm, lt-of-le-of-lt, mul-lt-mul-of-pos-right, suc-add, add-suc, add-zero}
 use native.Mathlib.Omega.{arith}
 use native.Mathlib.Numerals.{add-one}
-use lib.ListN.{length, drop, getD, length-append, List·getD-eq-default}
-use lib.Seq.{getD-drop}
+use lib.ListN.{length, take, drop, getD, length-append, List·getD-eq-default}
+use lib.Seq.{getD-drop, drop-cons}
 use lib.Pow.{pow-add, pow-pos}
 use lib.Dec.{lit<, ltb}
 use borrow.Author.Tests.{ltb-true, ltb-false}
@@ -54,6 +54,17 @@ pub part-all : (s : List ℕ) → part s 1 (length s) ≡ s
 unfolding part
 part-all [] = refl
 part-all (x ∷ xs) = ap (λ (l : List ℕ). x ∷ l) (shifted x xs 0 (length xs) ∙ part-all xs)
+
+from-next : (s : List ℕ) (end width : ℕ) → end + width ≤ length s → part s (suc end) width ≡ take width (drop end s)
+unfolding part
+from-next s end zero h = refl
+from-next s end (suc width) h =
+    let there : end < length s = omega arith in
+    rw (drop-cons s end 0) (ap (λ (l : List ℕ). getD s end 0 ∷ l) (from-next s (suc end) width (omega arith)))
+
+-- octets that are there are a stretch of the section
+pub part-take : (s : List ℕ) (end width : ℕ) → end + width ≤ length s → part s (end + 1) width ≡ take width (drop end s)
+part-take s end width h = rw add-one (from-next s end width h)
 
 pub octet-below : (s : List ℕ) (at : ℕ) → AllOctets s → octet s at < 256
 octet-below s zero o = lit< tt

@@ -1,9 +1,9 @@
 use mir.Syntax.{w64}
 use mir.ValLaws.{toZ-ofZ}
 use borrow.Author.Needs.{needs}
-use Rattle.cases.proofs.Sizes.{wide-kept, wide-fits, negated-fits, size-of-negative, size-of-other}
-use Rattle.cases.proofs.lines.signed.Statement.{statement}
-use Rattle.cases.proofs.lines.signed.Tie as tie
+use Rattle.output.proofs.Sizes.{wide-kept, wide-fits, negated-fits, size-of-negative, size-of-other}
+use Rattle.output.proofs.signed.Statement.{statement}
+use Rattle.output.proofs.signed.Tie as tie
 
 cast-wide : tie.Need-cast-wide
 cast-wide c = let a = c .before .before in wide-fits (a .args .z) (a .fits .z .sfits)

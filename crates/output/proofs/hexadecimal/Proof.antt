@@ -1,14 +1,14 @@
-use Prim.Native.Nat.{_-_, _≤_}
+use Prim.Native.Nat.{_-_}
 use lib.ListN.{length}
 use borrow.Author.Needs.{needs}
-use Rattle.cases.proofs.lines.hexadecimal.Statement.{statement}
-use Rattle.cases.proofs.lines.hexadecimal.Tie as tie
+use Rattle.output.proofs.hexadecimal.Statement.{statement}
+use Rattle.output.proofs.hexadecimal.Tie as tie
 
 abbrev Inv-loop : tie.InvT-loop
-Inv-loop octets i₀ i = i ≤ length octets
+Inv-loop part i₀ i = Unit {0}
 
 abbrev μ-loop : tie.MeasureT-loop
-μ-loop octets i₀ i = length octets - i
+μ-loop part i₀ i = length part - i
 
 pub hexadecimal-spec : {M : Type 1} → statement M
 hexadecimal-spec =
@@ -19,6 +19,7 @@ hexadecimal-spec =
     (λ c. search needs)
     (λ c. search needs)
     (λ c κs. search needs)
+    (λ c. search needs)
     (λ c κs. search needs)
     (λ c. search needs)
     (λ c κs. search needs)

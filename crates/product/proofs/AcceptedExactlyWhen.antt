@@ -1,0 +1,187 @@
+-- A section 4 is accepted exactly when it follows a listed template and keeps the value rules; what is read out are then the
+-- values of that template's fields.
+-- Assumes nothing.
+use Prim.Native.Nat.{ℕ, zero, suc, _+_, _-_, _*_, _≤_}
+use native.Mathlib.Omega.{arith}
+use mathlib.Core.Path.{_≡_, refl, ap, sym, _∙_}
+use mathlib.Core.Logic.{_↔_}
+use mathlib.Core.List.{List}
+use mathlib.Core.Bool.{Bool, true, false, cond, _&&_}
+use lib.ListN.{length}
+use lib.Dec.{eqb}
+use borrow.Author.Tests.{le-ltb, ltb-false, ne-eqb, eqb-false}
+use Rattle.octets.specs.Octets.{beAt}
+use Rattle.layout.specs.Fields.{Value, after, placed, badPlace, AllAllowed}
+use Rattle.layout.specs.Outcomes.{read, firstOf, headReasons}
+use Rattle.layout.specs.Time.{time}
+use Rattle.layout.proofs.Blocks.{bad-clear, bad-none, clear-bad, none-bad}
+use Rattle.layout.proofs.Outcomes.{NoneHold, read-none, none-last}
+use Rattle.layout.proofs.Ranges.{between-in, in-between, test-differs, differs-test, test-same, same-test}
+use Rattle.product.specs.Blocks.{process, forecast, scaled, surface, common, interval}
+use Rattle.product.specs.Section4.{templateOf, frontEnd, partEnd, rangesEnd, total, rangesAt, membersAt, coordinatesAt, totalIn, values₄, templateReasons, asTemplate, byTemplate, lengthReasons, outcome₄}
+use Rattle.product.specs.Accepted.{octetsBefore, countAt, forecastAt, EndKept, IntervalKept, Follows₄}
+use Rattle.product.specs.declared.PartKind.{PartKind}
+use Rattle.product.specs.declared.PartKind.the-variants.{None as noPart, Ensemble, Cluster, Probability, Aerosol}
+use Rattle.product.specs.declared.Template.{Template}
+use Rattle.product.specs.declared.Template.the-variants.{NotListed, Listed}
+use Rattle.product.proofs.Templates.{bad-is, part-enough}
+
+-- ---- document 01's table and the blocks
+
+table-places : (kind : PartKind) → (forecastAt kind ≡ frontEnd kind + 8) × (countAt kind ≡ partEnd kind + 8)
+table-places noPart = (refl, refl)
+table-places Ensemble = (refl, refl)
+table-places Cluster = (refl, refl)
+table-places Probability = (refl, refl)
+table-places Aerosol = (refl, refl)
+
+table-total : (kind : PartKind) (timed : Bool) (s : List ℕ) → octetsBefore kind timed s + 4 * beAt s 6 2 ≡ totalIn kind timed s
+unfolding total rangesEnd rangesAt
+table-total noPart false s = omega arith
+table-total Ensemble false s = omega arith
+table-total Cluster false s = omega arith
+table-total Probability false s = omega arith
+table-total Aerosol false s = omega arith
+table-total noPart true s = omega arith
+table-total Ensemble true s = omega arith
+table-total Cluster true s = omega arith
+table-total Probability true s = omega arith
+table-total Aerosol true s = omega arith
+
+-- ---- the value rules, of the end of an interval after octet `end`
+
+module _ (end : ℕ) (s : List ℕ) where
+  back : (k j : ℕ) → k + j ≡ 8 → end + 8 - k ≡ end + j
+  back k j e = omega arith
+
+  end-in : AllAllowed (after end interval) s → (beAt s (end + 8) 1 ≡ 0 → ⊥) → EndKept (end + 8) s
+  unfolding AllAllowed placed interval time
+  end-in h n =
+      record {
+        year = rw (back 7 1 refl) (test-differs _ _ (h .0));
+        month = rw (back 5 3 refl) (between-in _ _ _ (h .1 .0));
+        day = rw (back 4 4 refl) (between-in _ _ _ (h .1 .1 .0));
+        hour = rw (back 3 5 refl) (between-in _ _ _ (h .1 .1 .1 .0) .1);
+        minute = rw (back 2 6 refl) (between-in _ _ _ (h .1 .1 .1 .1 .0) .1);
+        second = rw (back 1 7 refl) (between-in _ _ _ (h .1 .1 .1 .1 .1 .0) .1);
+        ranges = n;
+      }
+
+  in-end : EndKept (end + 8) s → AllAllowed (after end interval) s
+  unfolding AllAllowed placed interval time
+  in-end k = (
+    differs-test _ _ (rw (back 7 1 refl) at (k .year)),
+    (
+      in-between 1 12 _ (rw (back 5 3 refl) at (k .month)),
+      (
+        in-between 1 31 _ (rw (back 4 4 refl) at (k .day)),
+        (
+          in-between 0 23 _ (omega arith, rw (back 3 5 refl) at (k .hour)),
+          (
+            in-between 0 59 _ (omega arith, rw (back 2 6 refl) at (k .minute)),
+            (in-between 0 59 _ (omega arith, rw (back 1 7 refl) at (k .second)), (refl, (refl, tt))),
+          ),
+        ),
+      ),
+    ),
+  )
+
+module _ (kind : PartKind) (s : List ℕ) where
+  -- whether there is an interval or not
+  interval-in : (timed : Bool) → cond timed (badPlace (after (partEnd kind) interval) s) 0 ≡ 0 → timed && eqb (rangesAt kind timed s) 0 ≡ false → IntervalKept timed (countAt kind) s
+  unfolding rangesAt
+  interval-in true bad n =
+      rw (table-places kind .1) (end-in (partEnd kind) s (bad-none _ _ interval s (omega arith) bad) (eqb-false _ _ n))
+  interval-in false bad n = tt
+
+  in-interval : (timed : Bool) → IntervalKept timed (countAt kind) s → (cond timed (badPlace (after (partEnd kind) interval) s) 0 ≡ 0) × (timed && eqb (rangesAt kind timed s) 0 ≡ false)
+  unfolding rangesAt
+  in-interval true k =
+      let e = rw (table-places kind .1) at k in
+      (none-bad _ s (in-end (partEnd kind) s e), ne-eqb _ _ (e .ranges))
+  in-interval false k = (refl, refl)
+
+-- the forecast time is all that can be out of range in the fields that every template has
+time-in : (end : ℕ) (s : List ℕ) → AllAllowed (after end common) s → beAt s (end + 8) 4 ≡ 0xffffffff → ⊥
+unfolding AllAllowed placed common process forecast surface scaled
+time-in end s h = test-differs _ _ (h .1 .1 .1 .1 .1 .1 .0)
+
+in-time : (end : ℕ) (s : List ℕ) → (beAt s (end + 8) 4 ≡ 0xffffffff → ⊥) → AllAllowed (after end common) s
+unfolding AllAllowed placed common process forecast surface scaled
+in-time end s h = (
+  refl,
+  (refl, (refl, (refl, (refl, (refl, (differs-test _ _ h, (refl, (refl, (refl, (refl, (refl, (refl, tt)))))))))))),
+)
+
+-- ---- accepted, so it follows
+
+-- the template by which a section is read
+template-of : (template : Template) (s : List ℕ) (vs : List Value) → byTemplate template s ≡ read vs → (kind : PartKind) × (timed : Bool) × (template ≡ Listed kind timed) × (asTemplate kind timed s ≡ read vs)
+unfolding byTemplate
+template-of NotListed s vs e = let z : _≡_ {A = ℕ} 0 1 = cc in absurd (omega arith)
+template-of (Listed kind timed) s vs e = (kind, timed, refl, e)
+
+pub accepted-follows : (s : List ℕ) (vs : List Value) → outcome₄ s ≡ read vs → (kind : PartKind) × (timed : Bool) × Follows₄ kind timed s × (vs ≡ values₄ kind timed s)
+unfolding outcome₄ asTemplate NoneHold
+accepted-follows s vs e =
+    let head = read-none 4 (headReasons 4 s) _ vs e in
+    let by = template-of (templateOf (beAt s 8 2)) s vs (read-none 4 (lengthReasons s) _ vs (head .1) .1) in
+    let kind = by .0 in
+    let timed = by .1 in
+    let rest = read-none 4 (templateReasons kind timed s) (read (values₄ kind timed s)) vs (by .3) in
+    let bad = sym (bad-is kind timed (rangesAt kind timed s) (membersAt kind s) (coordinatesAt s) s) ∙ test-same _ _ (rest .0 .1 .0) in
+    let fine = bad-clear (frontEnd kind) 1 common s _ (omega arith) bad in (
+      kind,
+      timed,
+      record {
+        small = ltb-false _ _ (head .0 .1 .0);
+        whole = test-same _ _ (rest .0 .1 .1 .1 .0) ∙ sym (table-total kind timed s);
+        says-length = test-same _ _ (head .0 .1 .1 .0);
+        says-number = test-same _ _ (head .0 .1 .1 .1 .0);
+        names = by .2;
+        forecast-time = rw (table-places kind .0) (time-in (frontEnd kind) s (fine .0));
+        interval = interval-in kind s timed (fine .1) (rest .0 .1 .1 .0);
+      },
+      cc,
+    )
+
+-- ---- it follows, so it is accepted
+
+-- a section with its n is no shorter than the smallest of its template, and that has its nine octets
+long-enough : (kind : PartKind) (timed : Bool) (n nc nv : ℕ) → timed && eqb n 0 ≡ false → (total kind timed 1 0 0 ≤ total kind timed n nc nv) × (9 ≤ total kind timed n nc nv)
+unfolding total rangesEnd
+long-enough kind true zero nc nv h = let z : _≡_ {A = ℕ} 0 1 = cc in absurd (omega arith)
+long-enough kind true (suc n) nc nv h = (omega arith, omega (arith, part-enough kind))
+long-enough kind false n nc nv h = (omega arith, omega (arith, part-enough kind))
+
+pub follows-total : (kind : PartKind) (timed : Bool) (s : List ℕ) → Follows₄ kind timed s → length s ≡ totalIn kind timed s
+follows-total kind timed s f = f .whole ∙ table-total kind timed s
+
+pub follows-accepted : (kind : PartKind) (timed : Bool) (s : List ℕ) → Follows₄ kind timed s → outcome₄ s ≡ read (values₄ kind timed s)
+unfolding outcome₄ asTemplate byTemplate NoneHold
+follows-accepted kind timed s f =
+    let l = follows-total kind timed s f in
+    let span = in-interval kind s timed (f .interval) in
+    let enough = long-enough kind timed (rangesAt kind timed s) (membersAt kind s) (coordinatesAt s) (span .1) in
+    let fine = in-time (frontEnd kind) s (rw (table-places kind .0) at (f .forecast-time)) in
+    let bad =
+    bad-is kind timed (rangesAt kind timed s) (membersAt kind s) (coordinatesAt s) s
+    ∙ clear-bad (after (frontEnd kind) common) s _ fine
+    ∙ span .0
+    in
+    let head = none-last 4 (headReasons 4 s) (firstOf 4 (lengthReasons s) (byTemplate (templateOf (beAt s 8 2)) s)) (
+      le-ltb (length s) 5 (omega arith),
+      (le-ltb _ _ (f .small), (same-test _ _ (f .says-length), (same-test _ _ (f .says-number), tt))),
+    ) in
+    let lengths = none-last 4 (lengthReasons s) (byTemplate (templateOf (beAt s 8 2)) s) (le-ltb (length s) 9 (omega arith), tt) in
+    let rest = none-last 4 (templateReasons kind timed s) (read (values₄ kind timed s)) (
+      le-ltb (length s) (total kind timed 1 0 0) (omega arith),
+      (same-test _ _ bad, (span .1, (same-test _ _ l, tt))),
+    ) in
+    head ∙ lengths ∙ ap (λ (t : Template). byTemplate t s) (f .names) ∙ rest
+
+pub accepted-exactly-when : (s : List ℕ) → ((vs : List Value) × (outcome₄ s ≡ read vs)) ↔ ((kind : PartKind) × (timed : Bool) × Follows₄ kind timed s)
+accepted-exactly-when s = (
+  (λ a. let f = accepted-follows s (a .0) (a .1) in (f .0, f .1, f .2)),
+  (λ f. (values₄ (f .0) (f .1) s, follows-accepted (f .0) (f .1) s (f .2))),
+)

@@ -1,0 +1,239 @@
+-- Any two answers that `read`'s contract allows for a section are one answer.
+-- Assumes nothing.
+use Prim.Native.Nat.{ℕ, zero, suc}
+use mathlib.Core.Path.{_≡_, refl, ap, sym, _∙_}
+use mathlib.Core.List.{List, _++_}
+use lib.ListN.{drop, getD}
+use lib.IntN.{natAbs}
+use Rattle.layout.specs.Fields.{Value, none, missing, is}
+use Rattle.layout.specs.Outcomes.{Outcome, refused, read}
+use Rattle.layout.specs.Time.{timeIn}
+use Rattle.layout.proofs.Untold.{int, nat, to16, back16, toSigned, backSigned, toTime, told-back}
+use Rattle.product.specs.Blocks.{parameterIn, processIn, forecastIn, scaledIn, surfaceIn, ensembleIn, clusterIn, probabilityIn, aerosolIn, endIn, intervalIn}
+use Rattle.product.specs.Section4.{tagIn, aheadIn, behindIn, valuesIn, told, outcome₄}
+use Rattle.product.specs.declared.Process.{Process}
+use Rattle.product.specs.declared.Scaled.{Scaled}
+use Rattle.product.specs.declared.Surface.{Surface}
+use Rattle.product.specs.declared.Part.{Part}
+use Rattle.product.specs.declared.Part.the-variants.{None as partNone, Ensemble as isEnsemble, Cluster as isCluster, Probability as isProbability, Aerosol as isAerosol}
+use Rattle.product.specs.declared.Interval.{Interval}
+use Rattle.product.specs.declared.Interval.the-variants.{None as noInterval, Ends}
+use Rattle.product.specs.declared.Product.{Product}
+use Rattle.product.specs.declared.Answer.{Answer}
+use Rattle.product.specs.declared.Answer.the-variants.{Read, Refused}
+
+-- ---- blocks, from the values at the front of a list
+
+toProcess : List Value → Process
+toProcess vs =
+    record {
+      kind = nat (getD vs 0 none);
+      background = nat (getD vs 1 none);
+      identifier = nat (getD vs 2 none);
+      «cutoff_hours» = to16 (getD vs 3 none);
+      «cutoff_minutes» = nat (getD vs 4 none);
+    }
+
+process-back : (x : Process) (rest : List Value) → toProcess (processIn x ++ rest) ≡ x
+unfolding toProcess processIn
+process-back x rest =
+    λ i. record {
+      kind = x .kind;
+      background = x .background;
+      identifier = x .identifier;
+      «cutoff_hours» = back16 (x .«cutoff_hours») i;
+      «cutoff_minutes» = x .«cutoff_minutes»;
+    }
+
+toScaled : List Value → Scaled
+toScaled vs = record { factor = toSigned (getD vs 0 none); value = toSigned (getD vs 1 none) }
+
+scaled-back : (x : Scaled) (rest : List Value) → toScaled (scaledIn x ++ rest) ≡ x
+unfolding toScaled scaledIn
+scaled-back x rest = λ i. record { factor = backSigned (x .factor) i; value = backSigned (x .value) i }
+
+toSurface : List Value → Surface
+toSurface vs = record { kind = nat (getD vs 0 none); level = toScaled (drop 1 vs) }
+
+surface-back : (x : Surface) (rest : List Value) → toSurface (surfaceIn x ++ rest) ≡ x
+unfolding toSurface surfaceIn
+surface-back x rest = λ i. record { kind = x .kind; level = scaled-back (x .level) rest i }
+
+toInterval : List Value → Interval
+toInterval vs = by (getD vs 0 none)
+  where
+    by : Value → Interval
+    by none = noInterval
+    by missing = noInterval
+    by (is year) =
+        Ends
+        (record {
+          year = natAbs year;
+          time = toTime vs 1;
+          ranges = nat (getD vs 6 none);
+          missing = nat (getD vs 7 none);
+        })
+
+interval-back : (x : Interval) → toInterval (intervalIn x) ≡ x
+unfolding toInterval intervalIn endIn timeIn
+interval-back noInterval = refl
+interval-back (Ends x) = refl
+
+-- ---- the part that a tag names, from the values ahead of the generating process and behind the surfaces
+
+toPart : ℕ → List Value → List Value → Part
+toPart zero ahead behind = partNone
+toPart (suc zero) ahead behind =
+    isEnsemble
+    (record {
+      kind = nat (getD behind 0 none);
+      perturbation = nat (getD behind 1 none);
+      forecasts = nat (getD behind 2 none);
+    })
+toPart (suc (suc zero)) ahead behind =
+    isCluster
+    (record {
+      derived = nat (getD behind 0 none);
+      forecasts = nat (getD behind 1 none);
+      identifier = nat (getD behind 2 none);
+      «high_control» = nat (getD behind 3 none);
+      «low_control» = nat (getD behind 4 none);
+      clusters = nat (getD behind 5 none);
+      method = nat (getD behind 6 none);
+      latitude = nat (getD behind 7 none);
+      longitude = nat (getD behind 8 none);
+      radius = nat (getD behind 9 none);
+      members = nat (getD behind 10 none);
+      «deviation_factor» = nat (getD behind 11 none);
+      deviation = nat (getD behind 12 none);
+      «distance_factor» = nat (getD behind 13 none);
+      distance = nat (getD behind 14 none);
+    })
+toPart (suc (suc (suc zero))) ahead behind =
+    isProbability
+    (record {
+      number = nat (getD behind 0 none);
+      probabilities = nat (getD behind 1 none);
+      kind = nat (getD behind 2 none);
+      lower = toScaled (drop 3 behind);
+      upper = toScaled (drop 5 behind);
+    })
+toPart (suc (suc (suc (suc n)))) ahead behind =
+    isAerosol
+    (record {
+      kind = nat (getD ahead 0 none);
+      sizes = nat (getD ahead 1 none);
+      first = toScaled (drop 2 ahead);
+      second = toScaled (drop 4 ahead);
+    })
+
+part-back : (x : Part) (a b : List Value) → toPart (tagIn x) (aheadIn x ++ a) (behindIn x ++ b) ≡ x
+unfolding toPart tagIn aheadIn behindIn ensembleIn clusterIn probabilityIn aerosolIn scaledIn
+part-back partNone a b = refl
+part-back (isEnsemble x) a b = refl
+part-back (isCluster x) a b = refl
+part-back (isProbability x) a b =
+    λ i. isProbability
+    (record {
+      number = x .number;
+      probabilities = x .probabilities;
+      kind = x .kind;
+      lower = scaled-back (x .lower) (scaledIn (x .upper) ++ b) i;
+      upper = scaled-back (x .upper) b i;
+    })
+part-back (isAerosol x) a b =
+    λ i. isAerosol
+    (record {
+      kind = x .kind;
+      sizes = x .sizes;
+      first = scaled-back (x .first) (scaledIn (x .second) ++ a) i;
+      second = scaled-back (x .second) a i;
+    })
+
+-- how many values these are
+aheadCount : ℕ → ℕ
+aheadCount zero = 0
+aheadCount (suc zero) = 0
+aheadCount (suc (suc zero)) = 0
+aheadCount (suc (suc (suc zero))) = 0
+aheadCount (suc (suc (suc (suc n)))) = 6
+
+behindCount : ℕ → ℕ
+behindCount zero = 0
+behindCount (suc zero) = 3
+behindCount (suc (suc zero)) = 15
+behindCount (suc (suc (suc zero))) = 7
+behindCount (suc (suc (suc (suc n)))) = 0
+
+skip-ahead : (x : Part) (rest : List Value) → drop (aheadCount (tagIn x)) (aheadIn x ++ rest) ≡ rest
+unfolding aheadCount tagIn aheadIn aerosolIn scaledIn
+skip-ahead partNone rest = refl
+skip-ahead (isEnsemble x) rest = refl
+skip-ahead (isCluster x) rest = refl
+skip-ahead (isProbability x) rest = refl
+skip-ahead (isAerosol x) rest = refl
+
+skip-behind : (x : Part) (rest : List Value) → drop (behindCount (tagIn x)) (behindIn x ++ rest) ≡ rest
+unfolding behindCount tagIn behindIn ensembleIn clusterIn probabilityIn scaledIn
+skip-behind partNone rest = refl
+skip-behind (isEnsemble x) rest = refl
+skip-behind (isCluster x) rest = refl
+skip-behind (isProbability x) rest = refl
+skip-behind (isAerosol x) rest = refl
+
+-- ---- the answer that an outcome is of
+
+toProduct : List Value → Product
+toProduct vs =
+    let t = nat (getD vs 4 none) in
+    let ahead = drop 7 vs in
+    let common = drop (aheadCount t) ahead in
+    let behind = drop 13 common in
+    record {
+      length = nat (getD vs 0 none);
+      number = nat (getD vs 1 none);
+      coordinates = nat (getD vs 2 none);
+      template = nat (getD vs 3 none);
+      parameter = record { category = nat (getD vs 5 none); number = nat (getD vs 6 none) };
+      process = toProcess common;
+      forecast = record { unit = nat (getD common 5 none); time = int (getD common 6 none) };
+      «first_surface» = toSurface (drop 7 common);
+      «second_surface» = toSurface (drop 10 common);
+      part = toPart t ahead behind;
+      interval = toInterval (drop (behindCount t) behind);
+    }
+
+product-back : (x : Product) → toProduct (valuesIn x) ≡ x
+unfolding toProduct valuesIn parameterIn processIn forecastIn surfaceIn scaledIn
+product-back x =
+    let behind = behindIn (x .part) ++ intervalIn (x .interval) in
+    let second = surfaceIn (x .«second_surface») ++ behind in
+    let first = surfaceIn (x .«first_surface») ++ second in
+    let common = processIn (x .process) ++ (forecastIn (x .forecast) ++ first) in
+    let skipped = skip-ahead (x .part) common in
+    let last = ap (λ (vs : List Value). drop (behindCount (tagIn (x .part))) (drop 13 vs)) skipped ∙ skip-behind (x .part) (intervalIn (x .interval)) in
+    λ i. record {
+      length = x .length;
+      number = x .number;
+      coordinates = x .coordinates;
+      template = x .template;
+      parameter = x .parameter;
+      process = (ap toProcess skipped ∙ process-back (x .process) (forecastIn (x .forecast) ++ first)) i;
+      forecast = record { unit = nat (getD (skipped i) 5 none); time = int (getD (skipped i) 6 none) };
+      «first_surface» = (ap (λ (vs : List Value). toSurface (drop 7 vs)) skipped ∙ surface-back (x .«first_surface») second) i;
+      «second_surface» = (ap (λ (vs : List Value). toSurface (drop 10 vs)) skipped ∙ surface-back (x .«second_surface») behind) i;
+      part = (ap (λ (vs : List Value). toPart (tagIn (x .part)) (aheadIn (x .part) ++ common) (drop 13 vs)) skipped ∙ part-back (x .part) common (intervalIn (x .interval))) i;
+      interval = (ap toInterval last ∙ interval-back (x .interval)) i;
+    }
+
+untold : Outcome → Answer
+untold (refused n s p) = Refused (record { number = n; section = s; place = p })
+untold (read vs) = Read (toProduct vs)
+
+back : (a : Answer) → untold (told a) ≡ a
+unfolding untold told
+back (Refused x) = refl
+back (Read x) = ap Read (product-back x)
+
+pub determined : (s : List ℕ) (a b : Answer) → told a ≡ outcome₄ s → told b ≡ outcome₄ s → a ≡ b
+determined s a b p q = told-back told untold back a b (p ∙ sym q)

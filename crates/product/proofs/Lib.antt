@@ -1,0 +1,7 @@
+pub mod Templates
+pub mod Callers
+pub mod StarredProducts
+pub mod FieldsCoverOnce
+pub mod AcceptedExactlyWhen
+pub mod ViewsAreTheLayouts
+pub mod AnswersDetermined

@@ -1,0 +1,85 @@
+-- What a caller is shown of a section 4 are the octets that its template's layout has for the time ranges, the members and the
+-- coordinates; where there are none, nothing is shown.
+-- Assumes nothing.
+use Prim.Native.Nat.{ℕ, zero, suc, _+_, _*_, _≤_, _<_}
+use native.Mathlib.Omega.{arith}
+use mathlib.Core.Path.{_≡_, refl, ap, sym, _∙_}
+use mathlib.Core.List.{List, [], _∷_, _++_}
+use mathlib.Core.Bool.{Bool, true, false, cond}
+use lib.ListN.{length, length-take, length-drop}
+use borrow.Author.Tests.{lt-ltb, le-ltb}
+use Rattle.octets.specs.Octets.{part}
+use Rattle.octets.proofs.Laws.{part-add, part-take}
+use Rattle.layout.specs.Fields.{after}
+use Rattle.layout.specs.Shown.{shownOf}
+use Rattle.layout.specs.Outcomes.{refused}
+use Rattle.product.specs.Section4.{partEnd, rangesEnd, total, rangesAt, membersAt, coordinatesAt, fieldsIn, totalIn, outcome₄}
+use Rattle.product.specs.Views.{ifRead, templateRead, rangeBy, membersBy, coordinatesBy, rangeOf, membersOf, coordinatesOf, strung}
+use Rattle.product.specs.Accepted.{Follows₄}
+use Rattle.product.specs.declared.PartKind.{PartKind}
+use Rattle.product.specs.declared.Template.{Template}
+use Rattle.product.specs.declared.Template.the-variants.{Listed}
+use Rattle.product.proofs.Templates.{shown-are}
+use Rattle.product.proofs.AcceptedExactlyWhen.{follows-accepted, follows-total}
+
+-- ---- a section that is read
+
+template-is : (kind : PartKind) (timed : Bool) (s : List ℕ) → Follows₄ kind timed s → templateRead s ≡ Listed kind timed
+unfolding ifRead
+template-is kind timed s f = rw (follows-accepted kind timed s f) (f .names)
+
+-- the first m time ranges, of 12 octets each, strung together
+ranges-strung : (kind : PartKind) (s : List ℕ) → partEnd kind + 12 + 12 * rangesAt kind true s ≤ length s → (m : ℕ) → m ≤ rangesAt kind true s → part s (partEnd kind + 12 + 1) (12 * m) ≡ strung (rangeBy (Listed kind true) s) m
+unfolding strung part rangeBy
+ranges-strung kind s room zero h = refl
+ranges-strung kind s room (suc m) h =
+    let one-more : 12 * suc m ≡ 12 * m + 12 = omega arith in
+    let next : partEnd kind + 12 + 1 + 12 * m ≡ partEnd kind + 12 + 12 * m + 1 = omega arith in
+    rw (one-more, part-add, next, part-take s (partEnd kind + 12 + 12 * m) 12 (omega arith), lt-ltb m (rangesAt kind true s) (omega arith), ranges-strung kind s room m (omega arith))
+
+ranges-by : (kind : PartKind) (timed : Bool) (s : List ℕ) → length s ≡ totalIn kind timed s → cond timed (part s (partEnd kind + 12 + 1) (12 * rangesAt kind timed s)) [] ≡ strung (rangeBy (Listed kind timed) s) (rangesAt kind timed s)
+unfolding total rangesEnd rangesAt strung
+ranges-by kind true s l = ranges-strung kind s (omega arith) (rangesAt kind true s) (omega arith)
+ranges-by kind false s l = refl
+
+views-by : (kind : PartKind) (timed : Bool) (s : List ℕ) → length s ≡ totalIn kind timed s → shownOf (after 0 (fieldsIn kind timed s)) s ≡ strung (rangeBy (Listed kind timed) s) (rangesAt kind timed s) ∷ membersBy (Listed kind timed) s ∷ coordinatesBy (Listed kind timed) s ∷ []
+unfolding total membersBy coordinatesBy
+views-by kind timed s l =
+    let end = rangesEnd kind timed (rangesAt kind timed s) in
+    rw (
+      shown-are,
+      ranges-by kind timed s l,
+      part-take s end (membersAt kind s) (omega arith),
+      part-take s (end + membersAt kind s) (4 * coordinatesAt s) (omega arith),
+    )
+
+-- the three lists that the layout shows are the time ranges, one after the other, the member list and the coordinate list
+pub views-shown : (kind : PartKind) (timed : Bool) (s : List ℕ) → Follows₄ kind timed s → shownOf (after 0 (fieldsIn kind timed s)) s ≡ strung (rangeOf s) (rangesAt kind timed s) ∷ membersOf s ∷ coordinatesOf s ∷ []
+views-shown kind timed s f =
+    views-by kind timed s (follows-total kind timed s f)
+    ∙ ap (λ (t : Template). strung (rangeBy t s) (rangesAt kind timed s) ∷ membersBy t s ∷ coordinatesBy t s ∷ []) (sym (template-is kind timed s f))
+
+-- each time range is whole
+pub range-whole : (kind : PartKind) (timed : Bool) (s : List ℕ) → Follows₄ kind timed s → (k : ℕ) → k < rangesAt kind timed s → length (rangeOf s k) ≡ 12
+unfolding rangeBy total rangesEnd rangesAt
+range-whole kind true s f k h =
+    rw (template-is kind true s f, lt-ltb k (rangesAt kind true s) h)
+    (simp (length-take, length-drop) (omega (arith, follows-total kind true s f)))
+range-whole kind false s f k h = absurd (omega arith)
+
+-- ---- nothing is shown
+
+-- from n up
+pub no-range : (kind : PartKind) (timed : Bool) (s : List ℕ) → Follows₄ kind timed s → (k : ℕ) → rangesAt kind timed s ≤ k → rangeOf s k ≡ []
+unfolding rangeBy
+no-range kind timed s f k h = rw (template-is kind timed s f, le-ltb k (rangesAt kind timed s) h)
+
+-- of members where the template has none, or none are counted
+pub no-members : (kind : PartKind) (timed : Bool) (s : List ℕ) → Follows₄ kind timed s → membersAt kind s ≡ 0 → membersOf s ≡ []
+unfolding membersBy
+no-members kind timed s f h = rw (template-is kind timed s f, h)
+
+-- of a refused section
+pub refused-nothing : (s : List ℕ) (number section place : ℕ) → outcome₄ s ≡ refused number section place → ((k : ℕ) → rangeOf s k ≡ []) × (membersOf s ≡ []) × (coordinatesOf s ≡ [])
+unfolding ifRead rangeBy membersBy coordinatesBy
+refused-nothing s number section place e = ((λ k. rw e), rw e, rw e)

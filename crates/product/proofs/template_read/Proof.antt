@@ -1,0 +1,23 @@
+use Rattle.octets.proofs.Free.{free}
+use Rattle.product.specs.Views.{ifRead}
+use Rattle.product.proofs.Callers.{read-is, refused-is}
+use borrow.Author.Needs.{needs}
+use Rattle.product.proofs.template_read.Statement.{statement}
+use Rattle.product.proofs.template_read.Tie as tie
+
+returns : tie.Need-returns
+unfolding ifRead
+returns c = simp (refused-is (c .before .before .read .ensures) (c .enum-told2 .given .1))
+
+returns-2 : tie.Need-returns-2
+unfolding ifRead
+returns-2 c =
+    let d = c .before .before in
+    simp (
+      read-is (d .before .before .read .ensures) (d .enum-told .given .1),
+      ← c .before .u16-at .ensures,
+      c .template-of .ensures,
+    )
+
+pub template-read-spec : {M : Type 1} → statement M
+template-read-spec = tie.close (tie.spec free (λ c. search needs) (λ c. search needs) returns free free returns-2)

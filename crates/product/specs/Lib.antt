@@ -1,0 +1,5 @@
+pub mod Blocks
+pub mod Section4
+pub mod Views
+pub mod Accepted
+pub mod Examples
