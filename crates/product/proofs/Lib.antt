@@ -1,5 +1,4 @@
 pub mod Templates
-pub mod Callers
 pub mod StarredProducts
 pub mod FieldsCoverOnce
 pub mod AcceptedExactlyWhen

@@ -7,7 +7,7 @@ ghost use lib.Dec.{eqb};
 ghost use Rattle.layout.specs.Fields.{none, after, badPlace, valuesOf};
 ghost use Rattle.layout.specs.Outcomes.{refused, read, firstOf};
 ghost use Rattle.product.specs.Blocks.{parameter, process, forecast, scaled, surface, ensemble, cluster, probability, aerosol, interval, parameterIn, processIn, forecastIn, scaledIn, surfaceIn, ensembleIn, clusterIn, probabilityIn, aerosolIn, endIn, intervalIn};
-ghost use Rattle.product.specs.Section4.{templateOf, frontEnd, partEnd, rangesEnd, total, rangesAt, membersAt, fieldsIn, values₄, countReasons, asTemplate, outcome₄, PartSays, valuesIn, told};
+ghost use Rattle.product.specs.Section4.{templateOf, frontEnd, partEnd, rangesEnd, total, rangesAt, membersAt, fieldsIn, values₄, countReasons, asTemplate, outcome₄, PartSays, valuesIn, told, refusalIn};
 ghost use Rattle.product.specs.Views.{templateRead, rangeOf, membersOf, coordinatesOf};
 use layout::I32OrMissing;
 use layout::Refusal;
@@ -156,6 +156,20 @@ pub fn read(section: &[u8]) -> Answer
         return refusal(6, 0);
     };
     read_as(section, kind, timed)
+}
+
+// The refusal of an answer that is one, for a caller to hand on.
+pub fn refusal_of(answer: Answer) -> Refusal
+    ensures { λ r. ⌜ r ≡ refusalIn answer ⌝ }
+{
+    match answer {
+        Answer::Refused(x) => x,
+        Answer::Read(_) => Refusal {
+            number: 0,
+            section: 0,
+            place: 0,
+        },
+    }
 }
 
 fn refusal(number: u8, place: usize) -> Answer

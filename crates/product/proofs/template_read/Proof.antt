@@ -1,20 +1,21 @@
 use Rattle.octets.proofs.Free.{free}
+use Rattle.product.specs.Section4.{told}
 use Rattle.product.specs.Views.{ifRead}
-use Rattle.product.proofs.Callers.{read-is, refused-is}
+use Rattle.layout.proofs.Outcomes.{answer-is}
 use borrow.Author.Needs.{needs}
 use Rattle.product.proofs.template_read.Statement.{statement}
 use Rattle.product.proofs.template_read.Tie as tie
 
 returns : tie.Need-returns
-unfolding ifRead
-returns c = simp (refused-is (c .before .before .read .ensures) (c .enum-told2 .given .1))
+unfolding ifRead told
+returns c = simp (answer-is told (c .before .before .read .ensures) (c .enum-told2 .given .1))
 
 returns-2 : tie.Need-returns-2
-unfolding ifRead
+unfolding ifRead told
 returns-2 c =
     let d = c .before .before in
     simp (
-      read-is (d .before .before .read .ensures) (d .enum-told .given .1),
+      answer-is told (d .before .before .read .ensures) (d .enum-told .given .1),
       ← c .before .u16-at .ensures,
       c .template-of .ensures,
     )
