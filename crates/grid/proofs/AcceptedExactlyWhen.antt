@@ -186,8 +186,8 @@ accepted-follows s vs e =
     let fits = read-none 3 (fittingReasons template s) (read (values₃ template s)) vs (range .1) in
     let fine = bad-none 0 1 (fields₃ template (listOctets s)) s (omega arith) (test-same _ _ (range .0 .1 .0)) in
     let block = allowed-by-block template (listOctets s) s fine in
-    let whole = test-same _ _ (fits .0 .1 .0) in
-    let points = test-same _ _ (fits .0 .1 .1 .1 .0) in (
+    let whole : length s ≡ total template s = test-same _ _ (fits .0 .1 .0) in
+    let points : beAt s 7 4 ≡ pointsOf template s = test-same _ _ (fits .0 .1 .1 .1 .0) in (
       template,
       record {
         small = ltb-false _ _ (head .0 .1 .0);

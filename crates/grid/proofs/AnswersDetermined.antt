@@ -1,7 +1,7 @@
 -- Any two answers that `read`'s contract allows for a section are one answer.
 -- Assumes nothing.
 use Prim.Native.Nat.{ℕ, zero, suc}
-use mathlib.Core.Path.{_≡_, refl, sym, _∙_}
+use mathlib.Core.Path.{_≡_, refl, ap, sym, _∙_}
 use mathlib.Core.List.{List}
 use lib.ListN.{getD, drop}
 use Rattle.layout.specs.Fields.{Value, none}
@@ -13,6 +13,7 @@ use Rattle.grid.specs.declared.Common.{Common}
 use Rattle.grid.specs.declared.Pole.{Pole}
 use Rattle.grid.specs.declared.Poles.{Poles}
 use Rattle.grid.specs.declared.Poles.the-variants.{None as noPoles, Rotated as isRotated, Stretched as isStretched, StretchedAndRotated as isBoth}
+use Rattle.grid.specs.declared.Grid.{Grid}
 use Rattle.grid.specs.declared.Answer.{Answer}
 use Rattle.grid.specs.declared.Answer.the-variants.{Read, Refused}
 
@@ -127,3 +128,8 @@ back (Read x) =
 
 pub determined : (s : List ℕ) (a b : Answer) → told a ≡ outcome₃ s → told b ≡ outcome₃ s → a ≡ b
 determined s a b p q = told-back told untold back a b (p ∙ sym q)
+
+-- so two records that say the same are one record
+pub same-record : (x y : Grid) → valuesIn x ≡ valuesIn y → x ≡ y
+unfolding told
+same-record x y e = let r : Read x ≡ Read y = told-back told untold back (Read x) (Read y) (ap read e) in cc

@@ -1,7 +1,7 @@
 -- Any two answers that `read`'s contract allows for a section are one answer.
 -- Assumes nothing.
 use Prim.Native.Nat.{ℕ}
-use mathlib.Core.Path.{_≡_, refl, sym, _∙_}
+use mathlib.Core.Path.{_≡_, refl, ap, sym, _∙_}
 use mathlib.Core.List.{List}
 use lib.ListN.{getD}
 use lib.IntN.{natAbs}
@@ -16,6 +16,7 @@ use Rattle.identification.specs.declared.CalendarCode.{CalendarCode}
 use Rattle.identification.specs.declared.CalendarCode.the-variants.{None as noCalendar, Is as isCalendar}
 use Rattle.identification.specs.declared.YearOffset.{YearOffset}
 use Rattle.identification.specs.declared.YearOffset.the-variants.{None as noOffset, Is as isOffset}
+use Rattle.identification.specs.declared.Identification.{Identification}
 use Rattle.identification.specs.declared.Answer.{Answer}
 use Rattle.identification.specs.declared.Answer.the-variants.{Read, Refused}
 
@@ -100,3 +101,8 @@ back (Read x) =
 
 pub determined : (s : List ℕ) (a b : Answer) → told a ≡ outcome₁ s → told b ≡ outcome₁ s → a ≡ b
 determined s a b p q = told-back told untold back a b (p ∙ sym q)
+
+-- so two records that say the same are one record
+pub same-record : (x y : Identification) → valuesIn x ≡ valuesIn y → x ≡ y
+unfolding told
+same-record x y e = let r : Read x ≡ Read y = told-back told untold back (Read x) (Read y) (ap read e) in cc

@@ -1,7 +1,7 @@
 -- Any two answers that the contracts of `read`, `read_data` and `unpack` allow are one answer, and so are the rows.
 -- Assumes nothing.
 use Prim.Native.Nat.{ℕ}
-use mathlib.Core.Path.{_≡_, refl, sym, _∙_}
+use mathlib.Core.Path.{_≡_, refl, ap, sym, _∙_}
 use mathlib.Core.List.{List}
 use lib.ListN.{getD}
 use Rattle.layout.specs.Fields.{Value, none}
@@ -10,6 +10,7 @@ use Rattle.layout.proofs.Untold.{int, nat, told-back}
 use Rattle.packing.specs.Section5.{told₅, valuesIn₅, outcome₅}
 use Rattle.packing.specs.Section7.{told₇, valuesIn₇, outcome₇}
 use Rattle.packing.specs.Unpacking.{toldUnpacked, Unpacks}
+use Rattle.packing.specs.declared.Packing.{Packing}
 use Rattle.packing.specs.declared.Answer.{Answer}
 use Rattle.packing.specs.declared.Answer.the-variants.{Read as Read₅, Refused as Refused₅}
 use Rattle.packing.specs.declared.DataAnswer.{DataAnswer}
@@ -42,6 +43,11 @@ back₅ (Read₅ x) = refl
 
 pub determined₅ : (s : List ℕ) (a b : Answer) → told₅ a ≡ outcome₅ s → told₅ b ≡ outcome₅ s → a ≡ b
 determined₅ s a b p q = told-back told₅ untold₅ back₅ a b (p ∙ sym q)
+
+-- so two records that say the same are one record
+pub same-record₅ : (x y : Packing) → valuesIn₅ x ≡ valuesIn₅ y → x ≡ y
+unfolding told₅
+same-record₅ x y e = let r : Read₅ x ≡ Read₅ y = told-back told₅ untold₅ back₅ (Read₅ x) (Read₅ y) (ap read e) in cc
 
 -- ---- section 7
 

@@ -237,3 +237,8 @@ back (Read x) = ap Read (product-back x)
 
 pub determined : (s : List ℕ) (a b : Answer) → told a ≡ outcome₄ s → told b ≡ outcome₄ s → a ≡ b
 determined s a b p q = told-back told untold back a b (p ∙ sym q)
+
+-- so two records that say the same are one record
+pub same-record : (x y : Product) → valuesIn x ≡ valuesIn y → x ≡ y
+unfolding told
+same-record x y e = let r : Read x ≡ Read y = told-back told untold back (Read x) (Read y) (ap read e) in cc

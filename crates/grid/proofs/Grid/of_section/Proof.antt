@@ -1,6 +1,6 @@
 use Rattle.octets.proofs.Free.{free}
 use denote.Ref.{now}
-use mathlib.Core.Path.{ap, sym, _∙_}
+use mathlib.Core.Path.{ap, _∙_}
 use mathlib.Core.List.{_∷_, _++_}
 use Rattle.layout.specs.Fields.{placed, after, valuesOf, plain}
 use Rattle.layout.proofs.Blocks.{values-drop}
@@ -21,6 +21,7 @@ returns c =
     let in-poles =
     c .read-poles .ensures ∙ ap (valuesOf (after 58 (poles (a .template)))) from-15 ∙ values-drop 58 14 (poles (a .template)) s
     in
+    rw (values-by-block (a .template) (listOctets s) s)
     (λ i. plain (head .before .before .before .before .before .before .u32-at .ensures i)
     ∷ plain (head .before .before .before .before .before .u8-at .ensures i)
     ∷ plain (head .before .before .before .before .u8-at2 .ensures i)
@@ -29,7 +30,6 @@ returns c =
     ∷ plain (head .before .u8-at4 .ensures i)
     ∷ plain (head .u16-at .ensures i)
     ∷ (in-common i ++ in-poles i))
-    ∙ sym (values-by-block (a .template) (listOctets s) s)
 
 pub of-section-spec : {M : Type 1} → statement M
 of-section-spec = tie.close (tie.spec free free free free free free free free free free returns)
