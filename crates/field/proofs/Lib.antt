@@ -1,0 +1,2 @@
+pub mod AnswersDetermined
+pub mod Points
