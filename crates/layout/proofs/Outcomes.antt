@@ -54,5 +54,5 @@ none-last section (r ∷ rs) o h = rw (h .0) (none-last section rs o (h .1))
 -- ---- a caller that takes an answer apart
 
 -- what the answer that was found says is the outcome
-pub answer-is : {A : Type 0} (tell : A → Outcome) {a b : A} {o : Outcome} → tell a ≡ o → a ≡ b → o ≡ tell b
+pub answer-is : {A B : Type 0} (tell : A → B) {a b : A} {o : B} → tell a ≡ o → a ≡ b → o ≡ tell b
 answer-is tell p e = sym p ∙ ap tell e

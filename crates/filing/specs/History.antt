@@ -1,0 +1,44 @@
+-- How a shelf came about by fields filed and shelves joined in, and the cards that were ever accepted for its slots.
+-- Assumes nothing.
+use Prim.Native.Nat.{ℕ}
+use mathlib.Core.List.{List, [], _∷_, _++_}
+use mathlib.Core.Bool.{cond}
+use lib.Dec.{eqb}
+use Rattle.card.specs.declared.Card.{Card}
+use Rattle.shelf.specs.Shelves.{emptyShelf, joinShelf}
+use Rattle.shelf.specs.declared.Shelf.{Shelf}
+use Rattle.filing.specs.Filing.{Filing, refusedFiling, accepted, filingOf, filedOf}
+use Rattle.filing.specs.declared.Issue.{Issue}
+
+-- what is filed: an issue and five sections
+pub record Sent : Type 0 where
+  pub issue : Issue
+  pub s1 : List ℕ
+  pub s3 : List ℕ
+  pub s4 : List ℕ
+  pub s5 : List ℕ
+  pub s7 : List ℕ
+
+-- a shelf starts empty, a field is filed to a slot, accepted or refused, or another shelf, with a history of its own, is joined in
+pub data History : Type 0 where
+  start : History
+  file : ℕ → Sent → History → History
+  join : History → History → History
+
+-- the shelf at the end of a history
+unfoldable pub shelfOf : History → Shelf
+shelfOf start = emptyShelf
+shelfOf (file slot x h) = filedOf (shelfOf h) slot (x .issue) (x .s1) (x .s3) (x .s4) (x .s5) (x .s7) .shelf
+shelfOf (join g h) = joinShelf (shelfOf g) (shelfOf h)
+
+-- the card that is accepted for a slot, if one is
+unfoldable pub acceptedOf : ℕ → ℕ → Filing → List Card
+acceptedOf n slot (refusedFiling number section place) = []
+acceptedOf n slot (accepted card) = cond (eqb slot n) (card ∷ []) []
+
+-- each card that was ever accepted for a slot, here or in a shelf joined in, directly or through others
+unfoldable pub acceptedAt : ℕ → History → List Card
+acceptedAt n start = []
+acceptedAt n (file slot x h) =
+    acceptedAt n h ++ acceptedOf n slot (filingOf slot (x .issue) (x .s1) (x .s3) (x .s4) (x .s5) (x .s7))
+acceptedAt n (join g h) = acceptedAt n g ++ acceptedAt n h
