@@ -161,13 +161,13 @@ pub follows-accepted : (kind : PartKind) (timed : Bool) (s : List ℕ) → Follo
 unfolding outcome₄ asTemplate byTemplate NoneHold
 follows-accepted kind timed s f =
     let l = follows-total kind timed s f in
-    let span = in-interval kind s timed (f .interval) in
-    let enough = long-enough kind timed (rangesAt kind timed s) (membersAt kind s) (coordinatesAt s) (span .1) in
+    let kept = in-interval kind s timed (f .interval) in
+    let enough = long-enough kind timed (rangesAt kind timed s) (membersAt kind s) (coordinatesAt s) (kept .1) in
     let fine = in-time (frontEnd kind) s (rw (table-places kind .0) at (f .forecast-time)) in
     let bad =
     bad-is kind timed (rangesAt kind timed s) (membersAt kind s) (coordinatesAt s) s
     ∙ clear-bad (after (frontEnd kind) common) s _ fine
-    ∙ span .0
+    ∙ kept .0
     in
     let head = none-last 4 (headReasons 4 s) (firstOf 4 (lengthReasons s) (byTemplate (templateOf (beAt s 8 2)) s)) (
       le-ltb (length s) 5 (omega arith),
@@ -176,7 +176,7 @@ follows-accepted kind timed s f =
     let lengths = none-last 4 (lengthReasons s) (byTemplate (templateOf (beAt s 8 2)) s) (le-ltb (length s) 9 (omega arith), tt) in
     let rest = none-last 4 (templateReasons kind timed s) (read (values₄ kind timed s)) (
       le-ltb (length s) (total kind timed 1 0 0) (omega arith),
-      (same-test _ _ bad, (span .1, (same-test _ _ l, tt))),
+      (same-test _ _ bad, (kept .1, (same-test _ _ l, tt))),
     ) in
     head ∙ lengths ∙ ap (λ (t : Template). byTemplate t s) (f .names) ∙ rest
 

@@ -11,7 +11,8 @@ use Rattle.product.specs.declared.PartKind.{PartKind}
 use Rattle.product.specs.declared.PartKind.the-variants.{None as noPart, Ensemble, Cluster, Probability, Aerosol}
 use Rattle.product.specs.declared.Template.the-variants.{Listed}
 
--- document 01's table: the octets before the coordinate values, with n and Nc where they stand
+-- document 01's table, its rows for 4.0, 4.1, 4.4, 4.5, 4.8, 4.9, 4.11, 4.14 and 4.46: the octets before the coordinate values, with n and
+-- Nc where they stand
 abbrev pub octetsBefore : PartKind → Bool → List ℕ → ℕ
 octetsBefore noPart false s = 34
 octetsBefore Ensemble false s = 37

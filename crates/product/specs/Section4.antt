@@ -23,7 +23,7 @@ use Rattle.product.specs.declared.Answer.the-variants.{Read, Refused}
 
 -- ---- the templates
 
--- each has a part or none, and is timed, with the end of an interval and time ranges, or is not
+-- each has a part or none; a timed one has the end of an interval and time ranges, and the others speak of a point in time
 unfoldable pub templateOf : ℕ → Template
 templateOf number =
     cond (eqb number 0) (Listed noPart false)
@@ -53,7 +53,7 @@ behind Cluster = cluster
 behind Probability = probability
 behind Aerosol = []
 
--- which of a record's parts it is
+-- the number that says which of a record's parts it is
 abbrev pub partTag : PartKind → ℕ
 partTag noPart = 0
 partTag Ensemble = 1
@@ -65,7 +65,7 @@ partTag Aerosol = 4
 unfoldable pub front : PartKind → List Field
 front kind = head ++ (tag (partTag kind) ∷ (parameter ++ ahead kind))
 
--- the end of the interval and n time ranges of 12 octets, where the template is timed
+-- the end of the interval and n time ranges of 12 octets; a template of a point in time has neither
 unfoldable pub timeRanges : Bool → ℕ → List Field
 timeRanges true n = interval ++ (shown (12 * n) ∷ [])
 timeRanges false n = lacking ∷ shown 0 ∷ []
@@ -95,10 +95,11 @@ partEnd Cluster = 64
 partEnd Probability = 47
 partEnd Aerosol = 47
 
--- the octet at which n time ranges end: they start 12 octets later
+-- the octet at which n time ranges end: the end of the interval, with n and the missing count, has 12 octets before them
 unfoldable pub rangesEnd : PartKind → Bool → ℕ → ℕ
 rangesEnd kind timed n = cond timed (partEnd kind + 12 + 12 * n) (partEnd kind)
 
+-- the octets of a section with n time ranges, nc members and nv coordinate values
 unfoldable pub total : PartKind → Bool → ℕ → ℕ → ℕ → ℕ
 total kind timed n nc nv = rangesEnd kind timed n + nc + 4 * nv
 
@@ -118,6 +119,7 @@ membersAt Aerosol s = 0
 abbrev pub coordinatesAt : List ℕ → ℕ
 coordinatesAt s = beAt s 6 2
 
+-- the fields, the total and the values of a section, by its own counts
 abbrev pub fieldsIn : PartKind → Bool → List ℕ → List Field
 fieldsIn kind timed s = fields₄ kind timed (rangesAt kind timed s) (membersAt kind s) (coordinatesAt s)
 
@@ -160,6 +162,7 @@ outcome₄ s = firstOf 4 (headReasons 4 s) (firstOf 4 (lengthReasons s) (byTempl
 
 -- ---- what a program's answer says
 
+-- which part it is, and its values ahead of the generating process and behind the surfaces
 unfoldable pub tagIn : Part → ℕ
 tagIn partNone = 0
 tagIn (isEnsemble x) = 1
