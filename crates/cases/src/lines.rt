@@ -60,7 +60,7 @@ pub(crate) fn next(text: &[u8], from: usize, byte: u8) -> usize
 
 // The section that a line says after its `from`th character, ` LENGTH OCTETS`, at the start of `out`; its length.
 pub(crate) fn section_of(line: &[u8], from: usize, out: &mut [u8]) -> usize
-    ensures { λ r. ⌜ r ≤ 600000 ⌝ }
+    ensures { λ r. ⌜ r ≤ 5000000000 ⌝ }
 {
     let gap = next(line, from, b' ');
     if gap == line.len() {
@@ -81,15 +81,48 @@ pub(crate) fn section_of(line: &[u8], from: usize, out: &mut [u8]) -> usize
     size
 }
 
-// A decimal number, as far as it is at most 600,000.
+// What stands behind the next `/`, and nothing if there is none.
+pub(crate) fn behind(line: &[u8]) -> &[u8] {
+    let end = next(line, 0, b'/');
+    if line.len() <= end {
+        return &line[..0];
+    }
+    &line[end + 1..]
+}
+
+// The section that a text says up to the next `/`, ` LENGTH OCTETS`, at the start of `out`; its length.
+pub(crate) fn section_in(text: &[u8], out: &mut [u8]) -> usize {
+    let end = next(text, 0, b'/');
+    section_of(&text[0..end], 0, out)
+}
+
+// The characters of a line from index `from` up to the next space.
+pub(crate) fn word(line: &[u8], from: usize) -> &[u8] {
+    if line.len() < from {
+        return &line[..0];
+    }
+    let end = next(line, from, b' ');
+    &line[from..end]
+}
+
+// What stands behind that word, with the space before it.
+pub(crate) fn after_word(line: &[u8], from: usize) -> &[u8] {
+    if line.len() < from {
+        return &line[..0];
+    }
+    let end = next(line, from, b' ');
+    &line[end..]
+}
+
+// A decimal number, as far as it is at most 5,000,000,000.
 pub(crate) fn decimal(word: &[u8]) -> usize
-    ensures { λ r. ⌜ r ≤ 600000 ⌝ }
+    ensures { λ r. ⌜ r ≤ 5000000000 ⌝ }
 {
     let mut value = 0;
     let mut i = 0;
     while i < word.len() {
         let more = value * 10 + digit(word[i]) as usize;
-        if 600000 < more {
+        if 5000000000 < more {
             return value;
         }
         value = more;

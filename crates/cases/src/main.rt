@@ -2,13 +2,16 @@
 // compared with what document 01 says. A line of input is `SECTION LENGTH OCTETS`: the reader to ask, the length of the
 // section to lend it, and its octets in hexadecimal, of which the last stands for the rest. For unpacking it is
 // `7 LENGTH OCTETS / LENGTH OCTETS / PLACES`: section 5, section 7, and the places of the row, each of which holds 9 before. A
-// line that starts with `#` is printed as it is.
+// line that starts with `#` is printed as it is. Lines that start with a letter file fields and join shelves (`shelves`).
 ghost use mathlib.Core.Path.{_≡_};
 ghost use lib.ListN.{length};
+use shelf::Shelf;
+use shelves::Shelves;
 
 mod lines;
 mod section1;
 mod section5;
+mod shelves;
 
 fn main() {
     let mut line = io::large_buffer();
@@ -17,11 +20,15 @@ fn main() {
 
 // One line after the other. The count only says that the work ends.
 fn run(line: &mut [u8]) {
+    let mut shelves = Shelves {
+        here: Shelf::empty(),
+        other: Shelf::empty(),
+    };
     let mut count: usize = 0;
     while count < 1000000 {
         let next = lines::read_line(line);
         let n = next.len;
-        run_line(&line[0..n]);
+        shelves = run_line(&line[0..n], shelves);
         if !next.more {
             return;
         }
@@ -29,17 +36,26 @@ fn run(line: &mut [u8]) {
     }
 }
 
-fn run_line(line: &[u8]) {
+fn run_line(line: &[u8], shelves: Shelves) -> Shelves {
     if line.len() == 0 {
-        return;
+        return shelves;
     }
-    let section = line[0];
-    if section == b'#' {
-        output::text(line);
-    } else {
-        run_case(line, section);
-    }
+    let order = line[0];
+    let after = run_order(line, order, shelves);
     output::text(b"\n");
+    after
+}
+
+fn run_order(line: &[u8], order: u8, shelves: Shelves) -> Shelves {
+    if order == b'#' {
+        output::text(line);
+        return shelves;
+    }
+    if b'a' <= order {
+        return shelves::run(line, order, shelves);
+    }
+    run_case(line, order);
+    shelves
 }
 
 fn run_case(line: &[u8], section: u8) {

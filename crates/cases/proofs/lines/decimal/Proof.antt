@@ -5,7 +5,7 @@ use Rattle.cases.proofs.lines.decimal.Statement.{statement}
 use Rattle.cases.proofs.lines.decimal.Tie as tie
 
 abbrev Inv-loop : tie.InvT-loop
-Inv-loop word value₀ i₀ value i = value ≤ 600000
+Inv-loop word value₀ i₀ value i = value ≤ 5000000000
 
 abbrev μ-loop : tie.MeasureT-loop
 μ-loop word value₀ i₀ value i = length word - i

@@ -1,0 +1,121 @@
+// Shelves: fields filed, one shelf joined to another, and what the slots then hold.
+use crate::lines;
+use filing::Answer;
+use filing::Filed;
+use filing::Issue;
+use shelf::Shelf;
+use shelf::Slot;
+
+// The shelf that fields are filed to, and another.
+pub(crate) struct Shelves {
+    pub(crate) here: Shelf,
+    pub(crate) other: Shelf,
+}
+
+// What a line asks for: `f SLOT ISSUE+1 / five sections` files a field (0: no issue named), `b SLOT 0 / five sections` reloads one at
+// the bench, `e` empties the shelf, `x` changes the two over, `j` joins the other in, and `s` shows what is held.
+pub(crate) fn run(line: &[u8], order: u8, shelves: Shelves) -> Shelves {
+    let here = shelves.here;
+    let other = shelves.other;
+    if order == b'e' {
+        let empty = Shelf::empty();
+        return Shelves { here: empty, other };
+    }
+    if order == b'x' {
+        return Shelves {
+            here: other,
+            other: here,
+        };
+    }
+    if order == b'j' {
+        let both = shelf::join(here, other);
+        return Shelves { here: both, other };
+    }
+    if order == b's' {
+        show_shelf(here);
+        return shelves;
+    }
+    let done = file(line, order, here);
+    let answer = done.answer;
+    show_answer(answer);
+    let after = done.shelf;
+    Shelves { here: after, other }
+}
+
+fn show_answer(answer: Answer) {
+    match answer {
+        Answer::Kept => output::text(b"kept"),
+        Answer::Passed => output::text(b"passed"),
+        Answer::Refused(x) => output::refusal(x),
+    }
+}
+
+fn show_shelf(shelf: Shelf) {
+    output::text(b"held");
+    let mut i: usize = 0;
+    while i < 64 {
+        show_slot(shelf::slot_of(shelf, i), i);
+        i += 1;
+    }
+}
+
+fn show_slot(slot: Slot, i: usize) {
+    if !slot.held {
+        return;
+    }
+    let card = slot.card;
+    output::number(b"slot", i as u64);
+    output::signed(b"year", card.year);
+    output::number(b"month", card.month as u64);
+    output::number(b"day", card.day as u64);
+    output::number(b"hour", card.hour as u64);
+    output::number(b"minute", card.minute as u64);
+    output::number(b"second", card.second as u64);
+    output::number(b"issue", card.issue as u64);
+    let product = card.product;
+    show_product(product);
+}
+
+fn show_product(product: [u8; 27]) {
+    output::list(b"product", &product);
+}
+
+fn file(line: &[u8], order: u8, shelf: Shelf) -> Filed {
+    let r1 = lines::behind(line);
+    let r3 = lines::behind(r1);
+    let r4 = lines::behind(r3);
+    let r5 = lines::behind(r4);
+    let r7 = lines::behind(r5);
+    let mut b1 = crate::section_buffer();
+    let n1 = lines::section_in(r1, &mut b1);
+    let mut b3 = crate::section_buffer();
+    let n3 = lines::section_in(r3, &mut b3);
+    let mut b4 = crate::section_buffer();
+    let n4 = lines::section_in(r4, &mut b4);
+    let mut b5 = crate::section_buffer();
+    let n5 = lines::section_in(r5, &mut b5);
+    let mut b7 = crate::section_buffer();
+    let n7 = lines::section_in(r7, &mut b7);
+    let slot = lines::decimal(lines::word(line, 2));
+    let s1 = octets::part_after(&b1, 0, n1);
+    let s3 = octets::part_after(&b3, 0, n3);
+    let s4 = octets::part_after(&b4, 0, n4);
+    let s5 = octets::part_after(&b5, 0, n5);
+    let s7 = octets::part_after(&b7, 0, n7);
+    if order == b'b' {
+        return filing::bench_reload(shelf, slot, s1, s3, s4, s5, s7);
+    }
+    let issue = issue_of(lines::decimal(lines::word(lines::after_word(line, 2), 1)));
+    filing::file_by_value(shelf, slot, issue, s1, s3, s4, s5, s7)
+}
+
+// Issue + 1, and 0 where none is named.
+fn issue_of(stored: usize) -> Issue {
+    if stored == 0 {
+        return Issue::NotNamed;
+    }
+    if 4294967296 < stored {
+        return Issue::NotNamed;
+    }
+    Issue::Named((stored - 1) as u32)
+}
