@@ -1,1 +1,3 @@
 pub mod Histories
+pub mod SaidOfTheSlots
+pub mod CardOctets

@@ -2,9 +2,7 @@
 ghost use mathlib.Core.Path.{_≡_};
 ghost use Rattle.octets.specs.Octets.{part};
 ghost use Rattle.identification.specs.Section1.{valuesIn};
-ghost use Rattle.layout.specs.Outcomes.{Outcome};
-ghost use Rattle.filing.specs.Filing.{issueOf, cardOf, foreignCalendar, afterPut, filedBy, filingOf, ofField, filedOf, refusedFiling};
-ghost use Rattle.field.specs.Field.{fieldOutcome};
+ghost use Rattle.filing.specs.Filing.{issueOf, cardOf, foreignCalendar, afterPut, filedBy, filedOf, refusedFiling};
 use card::Card;
 use identification::CalendarCode;
 use identification::Identification;

@@ -72,7 +72,7 @@ kept (put m c h) n l = go (eqb m n) refl (kept h n l)
     go : (t : Bool) → eqb m n ≡ t → Keeps (acceptedAt n h) (slotAt (shelfOf h) n) → Keeps (acceptedAt n h ++ cond (eqb m n) (c ∷ []) []) (slotAt (putShelf (shelfOf h) m c) n)
     go true e k =
         let same : m ≡ n = eqb-true m n e in
-        rw (e, same, put-same (shelfOf h) n c (tidy h) l) (keeps-both k (keeps-one c))
+        rw (e, same, put-same (shelfOf h) n c (tidy h .long) l) (keeps-both k (keeps-one c))
     go false e k = rw (e, append-nil (acceptedAt n h), put-other (shelfOf h) m n c (λ d. eqb-false m n e (sym d))) k
 kept (join g h) n l = rw (join-at (shelfOf g) (shelfOf h) n (tidy g) (tidy h) l) (keeps-both (kept g n l) (kept h n l))
 

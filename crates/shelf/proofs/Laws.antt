@@ -40,8 +40,8 @@ Clean s = s .held ≡ false → s ≡ blank
 pub tidy-empty : Tidy emptyShelf
 tidy-empty = record { long = length-replicate 64 blank; clean = λ n h e. getD-replicate 64 n blank blank h }
 
-pub put-same : (s : Shelf) (n : ℕ) (c : Card) → Tidy s → n < 64 → slotAt (putShelf s n c) n ≡ greaterSlot (slotAt s n) (holding c)
-put-same s n c t h = getD-set-same (s .slots) n _ blank (omega (arith, t .long))
+pub put-same : (s : Shelf) (n : ℕ) (c : Card) → length (s .slots) ≡ 64 → n < 64 → slotAt (putShelf s n c) n ≡ greaterSlot (slotAt s n) (holding c)
+put-same s n c long h = getD-set-same (s .slots) n _ blank (omega arith)
 
 pub put-other : (s : Shelf) (n k : ℕ) (c : Card) → k ≢ n → slotAt (putShelf s n c) k ≡ slotAt s k
 put-other s n k c d = getD-set-other (s .slots) n k _ blank d
@@ -57,7 +57,7 @@ tidy-put s n c t =
     }
   where
     here : n < 64 → Clean (slotAt (putShelf s n c) n)
-    here h = rw (put-same s n c t h) (one-of Clean (slotAt s n) (holding c) (t .clean n h) (λ e. absurd (true≢false e)))
+    here h = rw (put-same s n c (t .long) h) (one-of Clean (slotAt s n) (holding c) (t .clean n h) (λ e. absurd (true≢false e)))
 
     go : (k : ℕ) → k < 64 → Dec (k ≡ n) → Clean (slotAt (putShelf s n c) k)
     go k h (yes e) = subst (λ (m : ℕ). Clean (slotAt (putShelf s n c) m)) (sym e) (here (omega arith))
@@ -100,26 +100,26 @@ file-is-join (e ∷ q) s t =
     shelf-join .assoc s (putShelf emptyShelf (e .0) (e .1)) (fileAll q emptyShelf) ∙
     ap (joinShelf s) (sym (file-is-join q (putShelf emptyShelf (e .0) (e .1)) (tidy-put emptyShelf (e .0) (e .1) tidy-empty)))
 
--- ---- what is said of a card that was put: that its slot changed, exactly when it did
+-- ---- what is said of a card that was put, on any shelf of 64 slots: that its slot changed, exactly when it did
 
-pub unchanged-same : (s : Shelf) (n : ℕ) (c : Card) → Tidy s → putOf s n c .changed ≡ false → putShelf s n c ≡ s
+pub unchanged-same : (s : Shelf) (n : ℕ) (c : Card) → length (s .slots) ≡ 64 → putOf s n c .changed ≡ false → putShelf s n c ≡ s
 unfolding greaterSlot
-unchanged-same s n c t k = by-room (decLe 64 n)
+unchanged-same s n c long k = by-room (decLe 64 n)
   where
     by-room : Dec (64 ≤ n) → putShelf s n c ≡ s
-    by-room (yes h) = ap shelf (set-out (s .slots) n _ (omega (arith, t .long)))
+    by-room (yes h) = ap shelf (set-out (s .slots) n _ (omega arith))
     by-room (no d) =
         let l : ltb n 64 ≡ true = lt-ltb n 64 (omega arith) in
         let k′ : lessSlot (slotAt s n) (holding c) ≡ false = rw l at k in
         ap shelf (ap (set (s .slots) n) (max-left slot-strict _ _ k′) ∙ set-getD (s .slots) n blank)
 
-pub changed-differs : (s : Shelf) (n : ℕ) (c : Card) → Tidy s → putOf s n c .changed ≡ true → slotAt (putShelf s n c) n ≢ slotAt s n
+pub changed-differs : (s : Shelf) (n : ℕ) (c : Card) → length (s .slots) ≡ 64 → putOf s n c .changed ≡ true → slotAt (putShelf s n c) n ≢ slotAt s n
 unfolding greaterSlot
-changed-differs s n c t k e =
+changed-differs s n c long k e =
     let b = both-hold (ltb n 64) (lessSlot (slotAt s n) (holding c)) k in
     true≢false
     (sym (b .1)
-    ∙ subst (λ (z : Slot). lessSlot (slotAt s n) z ≡ false) (sym e ∙ put-same s n c t (ltb-true _ _ (b .0)) ∙ max-right slot-strict _ _ (b .1))
+    ∙ subst (λ (z : Slot). lessSlot (slotAt s n) z ≡ false) (sym e ∙ put-same s n c long (ltb-true _ _ (b .0)) ∙ max-right slot-strict _ _ (b .1))
     (slot-strict .irrefl (slotAt s n)))
   where
     both-hold : (a b : Bool) → (a && b) ≡ true → (a ≡ true) × (b ≡ true)

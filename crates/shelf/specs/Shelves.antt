@@ -1,7 +1,7 @@
 -- What a shelf holds: slots in an order of their own, in which an empty slot is below each that holds a card.
 -- Assumes nothing.
 use mathlib.Core.Bool.{Bool, true, false, _&&_}
-use mathlib.Core.List.{List, [], _∷_, zipWith}
+use mathlib.Core.List.{List, _∷_, zipWith}
 use Prim.Native.Nat.{ℕ}
 use lib.IntN.{ℤ, pos}
 use lib.Signed.{ltZ}
@@ -56,7 +56,7 @@ emptyShelf = record { slots = replicate 64 blank }
 abbrev pub slotAt : Shelf → ℕ → Slot
 slotAt s n = getD (s .slots) n blank
 
--- a shelf with one slot raised to a card
+-- the slot keeps the greater card; the others stay
 abbrev pub putShelf : Shelf → ℕ → Card → Shelf
 putShelf s n c = record { slots = set (s .slots) n (greaterSlot (slotAt s n) (holding c)) }
 

@@ -3,7 +3,8 @@ ghost use mathlib.Core.Path.{_≡_};
 ghost use Rattle.shelf.specs.Shelves.{lessSlot, greaterSlot, blank, slotAt, emptyShelf, putOf, joinShelf};
 use card::Card;
 
-// A slot that is not held is empty, and its card is the blank one, so that equal slots are equal values.
+// A slot is held or empty. Every shelf that these functions make from the empty one has the blank card in its empty slots, so that equal slots
+// are equal values there.
 pub struct Slot {
     pub held: bool,
     pub card: Card,

@@ -1,0 +1,64 @@
+-- The card of an accepted section 1 and a section 4, by octet numbers: the real reference time stands in octets 13-19 with the offset, and
+-- 17 looks at octet 24.
+-- Assumes nothing.
+use Prim.Native.Nat.{ℕ}
+use mathlib.Core.Path.{_≡_, refl, ap, _∙_}
+use mathlib.Core.Bool.{Bool, false, not}
+use mathlib.Core.List.{List}
+use lib.Dec.{eqb}
+use Rattle.octets.specs.Octets.{beAt, part}
+use Rattle.layout.specs.Fields.{Value, after, placed, valuesOf}
+use Rattle.layout.specs.Outcomes.{read}
+use Rattle.layout.specs.Time.{time}
+use Rattle.identification.specs.Section1.{outcome₁, realYearAt, values₁, fields₁, origin, statusAndType}
+use Rattle.identification.specs.Accepted.{Follows₁}
+use Rattle.identification.specs.declared.Template.{Template}
+use Rattle.identification.specs.declared.Template.the-variants.{None as noTemplate, Calendar, Offset, CalendarAndOffset}
+use Rattle.identification.proofs.AcceptedExactlyWhen.{accepted-follows}
+use Rattle.card.specs.declared.Card.{Card}
+use Rattle.filing.specs.Filing.{cardOf, foreignCalendar}
+
+-- the card, octet by octet
+abbrev pub cardAt : Template → List ℕ → ℕ → List ℕ → Card
+cardAt template s1 issue s4 =
+    record {
+      year = realYearAt template s1;
+      month = beAt s1 15 1;
+      day = beAt s1 16 1;
+      hour = beAt s1 17 1;
+      minute = beAt s1 18 1;
+      second = beAt s1 19 1;
+      issue = issue;
+      product = part s4 8 27;
+    }
+
+-- the calendar is present and not 0
+abbrev pub foreignAt : Template → List ℕ → Bool
+foreignAt noTemplate s1 = false
+foreignAt Calendar s1 = not (eqb (beAt s1 24 1) 0)
+foreignAt Offset s1 = false
+foreignAt CalendarAndOffset s1 = not (eqb (beAt s1 24 1) 0)
+
+card-of-values : (template : Template) (s1 : List ℕ) (issue : ℕ) (s4 : List ℕ) → cardOf (values₁ template s1) issue s4 ≡ cardAt template s1 issue s4
+unfolding cardOf values₁ valuesOf placed fields₁ origin time statusAndType
+card-of-values noTemplate s1 issue s4 = refl
+card-of-values Calendar s1 issue s4 = refl
+card-of-values Offset s1 issue s4 = refl
+card-of-values CalendarAndOffset s1 issue s4 = refl
+
+calendar-of-values : (template : Template) (s1 : List ℕ) → foreignCalendar (values₁ template s1) ≡ foreignAt template s1
+unfolding values₁ valuesOf placed fields₁ origin time statusAndType
+calendar-of-values noTemplate s1 = refl
+calendar-of-values Calendar s1 = refl
+calendar-of-values Offset s1 = refl
+calendar-of-values CalendarAndOffset s1 = refl
+
+pub card-octets : (s1 : List ℕ) (one : List Value) (issue : ℕ) (s4 : List ℕ) → outcome₁ s1 ≡ read one →
+    (template : Template) × Follows₁ template s1 × (cardOf one issue s4 ≡ cardAt template s1 issue s4) × (foreignCalendar one ≡ foreignAt template s1)
+card-octets s1 one issue s4 e =
+    let f = accepted-follows s1 one e in (
+      f .0,
+      f .1,
+      ap (λ (vs : List Value). cardOf vs issue s4) (f .2) ∙ card-of-values (f .0) s1 issue s4,
+      ap foreignCalendar (f .2) ∙ calendar-of-values (f .0) s1,
+    )
