@@ -1,2 +1,3 @@
 pub mod AnswersDetermined
+pub mod AcceptedExactlyWhen
 pub mod Points

@@ -2,11 +2,13 @@
 -- for whose slots the same cards were accepted are one shelf, whatever the order, the grouping and the repeats.
 -- A history of fields is one of cards, in which the refused ones were never sent, and the shelf's own theorems are cited.
 -- Assumes nothing.
-use Prim.Native.Nat.{ℕ, _<_}
+use Prim.Native.Nat.{ℕ, _<_, _≤_}
+use native.Mathlib.Omega.{arith}
 use mathlib.Core.Path.{_≡_, refl, sym, ap, ap₂, subst, _∙_}
 use mathlib.Core.List.{List, [], _∷_, _++_, List·Memᴰ, append-nil}
-use mathlib.Core.Bool.{cond}
-use lib.Dec.{eqb}
+use mathlib.Core.Bool.{Bool, true, false, cond}
+use lib.Dec.{eqb, ltb}
+use borrow.Author.Tests.{ltb-false, ne-eqb}
 use Rattle.card.specs.declared.Card.{Card}
 use Rattle.shelf.specs.Shelves.{slotAt, putShelf, joinShelf}
 use Rattle.shelf.specs.declared.Shelf.{Shelf}
@@ -69,3 +71,19 @@ same-shelf g h there back =
     (λ n l c m. subst (List·Memᴰ c) (same-accepted n h) (there n l c (subst (List·Memᴰ c) (sym (same-accepted n g)) m)))
     (λ n l c m. subst (List·Memᴰ c) (same-accepted n g) (back n l c (subst (List·Memᴰ c) (sym (same-accepted n h)) m)))
     ∙ sym (same-shelves h)
+
+-- no card is ever accepted for a slot that is not there: 16
+pub none-past-63 : (h : History) (n : ℕ) → 64 ≤ n → acceptedAt n h ≡ []
+unfolding acceptedAt acceptedOf filingOf
+none-past-63 start n l = refl
+none-past-63 (file slot x h) n l =
+    ap₂ (λ (k l : List Card). k ++ l) (none-past-63 h n l) (refused-past (ltb 63 slot) refl)
+  where
+    other : (f : Filing) → eqb slot n ≡ false → acceptedOf n slot f ≡ []
+    other (refusedFiling number section place) e = refl
+    other (accepted card) e = rw e
+
+    refused-past : (t : Bool) → ltb 63 slot ≡ t → acceptedOf n slot (filingOf slot (x .issue) (x .s1) (x .s3) (x .s4) (x .s5) (x .s7)) ≡ []
+    refused-past true e = rw e
+    refused-past false e = other (filingOf slot (x .issue) (x .s1) (x .s3) (x .s4) (x .s5) (x .s7)) (ne-eqb slot n (λ q. let small : slot ≤ 63 = ltb-false 63 slot e in omega arith))
+none-past-63 (join g h) n l = ap₂ (λ (k l : List Card). k ++ l) (none-past-63 g n l) (none-past-63 h n l)
