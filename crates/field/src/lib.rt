@@ -10,7 +10,7 @@ use layout::Refusal;
 use packing::Packing;
 use product::Product;
 
-// The four records. Section 7 has nothing beside its packed values.
+// The four records. Of section 7 nothing is left to say: its number is 7, and its length follows from section 5.
 pub struct Field {
     pub identification: Identification,
     pub grid: Grid,

@@ -45,7 +45,7 @@ pub record NoList (template : Template) (s : List ℕ) : Type 0 where
   pub points : beAt s 7 4 ≡ beAt s 31 4 * beAt s 35 4
 
 -- width 1, 2 or 4: of Ni and Nj one is missing, its increment too, and the other is how many numbers follow the base;
--- octet 12 is 1 or 2, and the points are the sum of the list
+-- octet 12 is 1 or 2, and the points are the sum of the list. `absent`, `increment` and `counted` are the first octets of these three
 pub record AList (absent increment counted : ℕ) (template : Template) (s : List ℕ) : Type 0 where
   pub width : (beAt s 11 1 ≡ 1) ⊎ ((beAt s 11 1 ≡ 2) ⊎ (beAt s 11 1 ≡ 4))
   pub interpretation : (1 ≤ beAt s 12 1) × (beAt s 12 1 ≤ 2)

@@ -6,7 +6,7 @@ use mathlib.Core.Bool.{Bool, not, cond, _&&_, _||_}
 use lib.ListN.{length, drop}
 use lib.Dec.{ltb, leb, eqb}
 use Rattle.octets.specs.Octets.{beAt, allOnes}
-use Rattle.layout.specs.Fields.{Value, none, is, plain, unsigned, Field, held, shown, between, raw, ranged, signedPresent, optional, count, lacking, tag, after, badPlace, valuesOf}
+use Rattle.layout.specs.Fields.{Value, none, is, plain, unsigned, Field, held, shown, between, raw, ranged, signedPresent, optional, nonzeroOrMissing, lacking, tag, after, badPlace, valuesOf}
 use Rattle.layout.specs.Outcomes.{Outcome, refused, read, refusedBy, Reason, reason, badField, firstOf, headReasons}
 use Rattle.layout.specs.Missing.{in8, in32}
 use Rattle.layout.specs.declared.Refusal.{Refusal}
@@ -45,7 +45,7 @@ earth = raw 1 ∷ (scaled ++ (scaled ++ scaled))
 
 -- octets 31 to 46: Ni, Nj, basic angle, subdivisions
 unfoldable pub counts : List Field
-counts = count 4 ∷ count 4 ∷ raw 4 ∷ count 4 ∷ []
+counts = nonzeroOrMissing 4 ∷ nonzeroOrMissing 4 ∷ raw 4 ∷ nonzeroOrMissing 4 ∷ []
 
 -- octets 47 to 72: La1, Lo1, component flags, La2, Lo2, Di, Dj, scanning mode
 unfoldable pub corners : List Field
@@ -118,7 +118,7 @@ agreedWithoutList s = eqb (interpretation s) 0 && (not (isMissing (ni s)) && not
 unfoldable pub agreedWithList : List ℕ → Bool
 agreedWithList s = between 1 2 (interpretation s) && (missingWith 31 64 35 s || missingWith 35 68 31 s)
 
--- width 0, or 1, 2 or 4
+-- width 0 without a list, or 1, 2 or 4 with one
 unfoldable pub agreed : List ℕ → Bool
 agreed s = cond (eqb (listWidth s) 0) (agreedWithoutList s) (hasList (listWidth s) && agreedWithList s)
 
@@ -141,6 +141,7 @@ sumOf end width s (suc n) = sumOf end width s n + beAt s (end + 1 + width * n) w
 unfoldable pub pointsOf : Template → List ℕ → ℕ
 pointsOf template s = cond (eqb (listWidth s) 0) (ni s * nj s) (sumOf (baseEnd template) (listWidth s) s (listCount s))
 
+-- 12: without a list, Ni x Nj does not fit into 64 bits
 unfoldable pub productAbove : List ℕ → Bool
 productAbove s = eqb (listWidth s) 0 && leb (2 ^ 64) (ni s * nj s)
 

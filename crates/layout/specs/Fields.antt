@@ -94,8 +94,8 @@ optional w = held w anything (orMissing unsigned)
 abbrev pub optionalSigned : ℕ → Field
 optionalSigned w = held w anything (orMissing signed)
 
-abbrev pub count : ℕ → Field
-count w = held w notZero (orMissing unsigned)
+abbrev pub nonzeroOrMissing : ℕ → Field
+nonzeroOrMissing w = held w notZero (orMissing unsigned)
 
 -- a field that the template lacks, and a number that says which part follows
 abbrev pub lacking : Field

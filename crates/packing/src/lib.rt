@@ -9,7 +9,7 @@ use layout::Refusal;
 
 mod bits;
 
-// Section 5: every field once.
+// Section 5: every field once. `values` is N, `reference` R as bits, `binary_scale` E and `decimal_scale` D.
 pub struct Packing {
     pub length: u32,
     pub number: u8,

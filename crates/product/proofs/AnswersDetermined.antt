@@ -122,7 +122,7 @@ toPart (suc (suc (suc (suc n)))) ahead behind =
     isAerosol
     (record {
       kind = nat (getD ahead 0 none);
-      sizes = nat (getD ahead 1 none);
+      «interval_of_sizes» = nat (getD ahead 1 none);
       first = toScaled (drop 2 ahead);
       second = toScaled (drop 4 ahead);
     })
@@ -145,7 +145,7 @@ part-back (isAerosol x) a b =
     λ i. isAerosol
     (record {
       kind = x .kind;
-      sizes = x .sizes;
+      «interval_of_sizes» = x .«interval_of_sizes»;
       first = scaled-back (x .first) (scaledIn (x .second) ++ a) i;
       second = scaled-back (x .second) a i;
     })

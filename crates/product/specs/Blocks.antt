@@ -134,7 +134,7 @@ unfoldable pub aerosol : List Field
 aerosol = raw 2 ∷ raw 1 ∷ (scaled ++ scaled)
 
 unfoldable pub aerosolIn : AerosolPart → List Value
-aerosolIn x = plain (x .kind) ∷ plain (x .sizes) ∷ (scaledIn (x .first) ++ scaledIn (x .second))
+aerosolIn x = plain (x .kind) ∷ plain (x .«interval_of_sizes») ∷ (scaledIn (x .first) ++ scaledIn (x .second))
 
 -- ---- the end of the interval: year, never missing, and time; n; the missing count
 

@@ -94,7 +94,7 @@ pub struct ProbabilityPart {
 
 pub struct AerosolPart {
     pub kind: u16,
-    pub sizes: u8,
+    pub interval_of_sizes: u8,
     pub first: Scaled,
     pub second: Scaled,
 }
@@ -470,7 +470,7 @@ fn read_aerosol(section: &[u8], end: u16) -> AerosolPart
     let before = end as usize;
     AerosolPart {
         kind: octets::u16_at(section, before + 1),
-        sizes: octets::u8_at(section, before + 3),
+        interval_of_sizes: octets::u8_at(section, before + 3),
         first: read_scaled(section, end as u32 + 3),
         second: read_scaled(section, end as u32 + 8),
     }

@@ -143,7 +143,7 @@ fn show_probability(x: ProbabilityPart) {
 fn show_aerosol(x: AerosolPart) {
     output::text(b" part aerosol");
     output::number(b"type", x.kind as u64);
-    output::number(b"sizes", x.sizes as u64);
+    output::number(b"sizes", x.interval_of_sizes as u64);
     let first = x.first;
     show_scaled(first);
     let second = x.second;
