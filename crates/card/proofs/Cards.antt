@@ -1,12 +1,10 @@
 -- The order of cards is strict and total, so that the greater of two cards is a join.
 -- Assumes nothing.
-use mathlib.Core.Path.{_≡_, refl, ap, ap₂}
+use mathlib.Core.Path.{_≡_, refl, ap₂}
 use mathlib.Core.List.{List, [], _∷_, map, nil≢cons, cons≢nil}
 use Prim.Native.Nat.{ℕ}
-use lib.IntN.{ℤ, pos}
-use lib.Signed.{ltZ}
+use lib.IntN.{pos}
 use Rattle.card.specs.declared.Card.{Card}
-use Rattle.card.specs.Order.{lex, maxOf}
 use Rattle.card.specs.Key.{keyOf, lessCard, greaterCard}
 use Rattle.card.proofs.Strict.{Strict, Join, pulled, max-join}
 use Rattle.card.proofs.Lex.{lex-strict, Z-strict}

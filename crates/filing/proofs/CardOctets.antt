@@ -7,7 +7,7 @@ use mathlib.Core.Bool.{Bool, false, not}
 use mathlib.Core.List.{List}
 use lib.Dec.{eqb}
 use Rattle.octets.specs.Octets.{beAt, part}
-use Rattle.layout.specs.Fields.{Value, after, placed, valuesOf}
+use Rattle.layout.specs.Fields.{Value, placed, valuesOf}
 use Rattle.layout.specs.Outcomes.{read}
 use Rattle.layout.specs.Time.{time}
 use Rattle.identification.specs.Section1.{outcome₁, realYearAt, values₁, fields₁, origin, statusAndType}

@@ -5,17 +5,17 @@
 use Prim.Native.Nat.{ℕ, _<_, _≤_}
 use native.Mathlib.Omega.{arith}
 use mathlib.Core.Path.{_≡_, refl, sym, ap, ap₂, subst, _∙_}
-use mathlib.Core.List.{List, [], _∷_, _++_, List·Memᴰ, append-nil}
-use mathlib.Core.Bool.{Bool, true, false, cond}
+use mathlib.Core.List.{List, [], _++_, List·Memᴰ, append-nil}
+use mathlib.Core.Bool.{Bool, true, false}
 use lib.Dec.{eqb, ltb}
 use borrow.Author.Tests.{ltb-false, ne-eqb}
 use Rattle.card.specs.declared.Card.{Card}
-use Rattle.shelf.specs.Shelves.{slotAt, putShelf, joinShelf}
+use Rattle.shelf.specs.Shelves.{slotAt, joinShelf}
 use Rattle.shelf.specs.declared.Shelf.{Shelf}
 use Rattle.shelf.specs.History.{Keeps, History as Cards, start as noCards, put, join as joinCards, shelfOf as shelfOfCards, acceptedAt as acceptedCards}
 use Rattle.shelf.proofs.Histories.{kept as kept-cards, same-shelf as same-cards}
 use Rattle.filing.specs.Filing.{Filing, refusedFiling, accepted, filingOf, filedBy, filedOf}
-use Rattle.filing.specs.History.{Sent, History, start, file, join, shelfOf, acceptedOf, acceptedAt}
+use Rattle.filing.specs.History.{History, start, file, join, shelfOf, acceptedOf, acceptedAt}
 
 -- ---- a history of fields as one of cards
 

@@ -1,7 +1,7 @@
 -- What `list` shows of an accepted section: those very octets that follow the base, whose numbers sum to the points. A refused
 -- section, and one without a list, shows none.
 -- Assumes nothing.
-use Prim.Native.Nat.{ℕ, zero, suc, _+_, _*_, _-_}
+use Prim.Native.Nat.{ℕ, zero, suc, _+_, _*_}
 use native.Mathlib.Omega.{arith}
 use mathlib.Core.Path.{_≡_, refl, ap, sym, _∙_}
 use mathlib.Core.List.{List, []}

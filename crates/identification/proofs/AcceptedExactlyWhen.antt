@@ -1,18 +1,18 @@
 -- A section 1 is accepted exactly when it follows a template and keeps the value rules; what is read out are then the values of
 -- that template's fields.
 -- Assumes nothing.
-use Prim.Native.Nat.{ℕ, zero, suc, _+_, _≤_}
+use Prim.Native.Nat.{ℕ, zero, suc, _≤_}
 use native.Mathlib.Omega.{arith}
-use mathlib.Core.Path.{_≡_, refl, ap, sym, _∙_}
+use mathlib.Core.Path.{_≡_, refl, sym, _∙_}
 use mathlib.Core.Logic.{_↔_}
-use mathlib.Core.List.{List, [], _∷_}
+use mathlib.Core.List.{List}
 use mathlib.Core.Bool.{Bool, true, false, cond}
 use lib.ListN.{length}
-use lib.Dec.{ltb, eqb}
-use borrow.Author.Tests.{le-ltb, ltb-false, eq-eqb, ne-eqb, eqb-false}
+use lib.Dec.{eqb}
+use borrow.Author.Tests.{le-ltb, ltb-false, ne-eqb, eqb-false}
 use Rattle.octets.specs.Octets.{beAt}
 use Rattle.layout.specs.Fields.{Value, after, placed, AllAllowed}
-use Rattle.layout.specs.Outcomes.{Outcome, read, firstOf, headReasons}
+use Rattle.layout.specs.Outcomes.{read, firstOf, headReasons}
 use Rattle.layout.specs.Time.{time}
 use Rattle.layout.proofs.Blocks.{bad-none, none-bad}
 use Rattle.layout.proofs.Outcomes.{NoneHold, read-none, none-last}

@@ -4,12 +4,12 @@ use mathlib.Core.Path.{_≡_, refl, ap, sym, _∙_}
 use mathlib.Core.List.{List, [], _∷_, _++_, append-assoc}
 use mathlib.Core.Bool.{Bool, true, false, cond}
 use Prim.Native.Nat.{ℕ, _+_, _≤_}
-use native.Mathlib.Nat.{zero-add, add-zero, add-assoc, add-comm}
+use native.Mathlib.Nat.{add-zero, add-assoc, add-comm}
 use native.Mathlib.Omega.{arith}
 use lib.ListN.{length, drop}
 use Rattle.octets.specs.Octets.{beAt, part}
 use Rattle.octets.proofs.Laws.{part-add, part-all, beAt-drop}
-use Rattle.layout.specs.Fields.{Value, Field, FieldAt, width, allowed, reads, widthOf, placed, after, rawAt, lowestBad, badPlace, valuesOf, octetsOf, AllAllowed}
+use Rattle.layout.specs.Fields.{Field, FieldAt, width, allowed, reads, widthOf, placed, after, lowestBad, badPlace, valuesOf, octetsOf, AllAllowed}
 
 pub width-append : (a b : List Field) → widthOf (a ++ b) ≡ widthOf a + widthOf b
 unfolding widthOf

@@ -1,6 +1,5 @@
 -- What a program's number says that may be missing.
 -- Assumes nothing.
-use lib.IntN.{pos}
 use Rattle.layout.specs.Fields.{Value, missing, is, plain}
 use Rattle.layout.specs.declared.U8OrMissing.{U8OrMissing}
 use Rattle.layout.specs.declared.U8OrMissing.the-variants.{Missing as no8, Is as is8}

@@ -2,8 +2,8 @@
 -- Assumes nothing.
 use mathlib.Core.Path.{_≡_, refl, ap, sym, subst⁻¹, _∙_}
 use mathlib.Core.List.{List, [], _∷_, _++_}
-use Prim.Native.Nat.{ℕ, zero, suc, _+_, _-_, _*_, _^_, _≤_, _<_}
-use native.Mathlib.Nat.{zero-mul, zero-add, add-assoc, add-mul, mul-assoc, pow-succ', mul-le-mul-right, mul-le-mul-left, le-of-lt, le-antisymm, lt-of-le-of-lt, mul-lt-mul-of-pos-right, suc-add, add-suc, add-zero}
+use Prim.Native.Nat.{ℕ, zero, suc, _+_, _*_, _^_, _≤_, _<_}
+use native.Mathlib.Nat.{zero-mul, zero-add, add-mul, mul-assoc, pow-succ', mul-le-mul-right, mul-le-mul-left, le-of-lt, le-antisymm, lt-of-le-of-lt, mul-lt-mul-of-pos-right, suc-add, add-suc, add-zero}
 use native.Mathlib.Omega.{arith}
 use native.Mathlib.Numerals.{add-one}
 use lib.ListN.{length, take, drop, getD, length-append, List·getD-eq-default}

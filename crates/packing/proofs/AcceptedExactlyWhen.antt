@@ -1,19 +1,19 @@
 -- Sections 5 and 7 are accepted exactly when they follow their templates and keep the value rules.
 -- Assumes nothing.
-use Prim.Native.Nat.{ℕ, _+_, _≤_}
+use Prim.Native.Nat.{ℕ}
 use native.Mathlib.Omega.{arith}
 use mathlib.Core.Path.{_≡_, refl, sym, _∙_}
 use mathlib.Core.Logic.{_↔_}
-use mathlib.Core.List.{List, [], _∷_}
+use mathlib.Core.List.{List}
 use lib.ListN.{length}
 use borrow.Author.Tests.{le-ltb, ltb-false}
 use Rattle.layout.specs.Fields.{Value, after, placed, valuesOf, AllAllowed}
-use Rattle.layout.specs.Outcomes.{Outcome, read, firstOf, headReasons}
+use Rattle.layout.specs.Outcomes.{read, firstOf, headReasons}
 use Rattle.layout.proofs.Blocks.{bad-none, none-bad}
 use Rattle.layout.proofs.Outcomes.{NoneHold, read-none, none-last}
 use Rattle.layout.proofs.Ranges.{between-in, in-between, test-same, same-test}
 use Rattle.packing.specs.Section5.{fields₅, simpleReasons, asSimple, reasons₅, outcome₅}
-use Rattle.packing.specs.Section7.{packedOctets, fields₇, reasons₇, outcome₇}
+use Rattle.packing.specs.Section7.{fields₇, reasons₇, outcome₇}
 use Rattle.packing.specs.Accepted.{Follows₅, Follows₇}
 
 -- ---- section 5

@@ -4,7 +4,7 @@ use Prim.Native.Nat.{ℕ}
 use mathlib.Core.Path.{_≡_, refl, ap, sym, _∙_}
 use mathlib.Core.List.{List}
 use lib.ListN.{getD}
-use Rattle.layout.specs.Fields.{Value, none}
+use Rattle.layout.specs.Fields.{none}
 use Rattle.layout.specs.Outcomes.{Outcome, refused, read}
 use Rattle.layout.proofs.Untold.{int, nat, told-back}
 use Rattle.packing.specs.Section5.{told₅, valuesIn₅, outcome₅}

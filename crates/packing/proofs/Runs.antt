@@ -1,16 +1,15 @@
 -- The laws of runs of bits, and of a row that is filled from the front.
 -- Assumes nothing.
 use mathlib.Core.Path.{_≡_, refl, ap, sym, subst, _∙_}
-use mathlib.Core.List.{List, [], _∷_}
+use mathlib.Core.List.{List}
 use Prim.Native.Nat.{ℕ, zero, suc, _+_, _-_, _*_, _/_, _%_, _^_, _≤_, _<_}
-use native.Mathlib.Nat.{add-zero, add-suc, add-mul, suc-add, add-assoc, mul-one, mul-assoc, pow-zero, pow-suc, suc-mul, mod-lt, zero-add, div-one, zero-div, div-div-eq-div-mul, lt-of-lt-of-le, lt-irrefl, not-suc-le-zero, le-of-suc-le-suc}
-use native.Mathlib.Numerals.{add-one, add-eight}
+use native.Mathlib.Nat.{add-zero, add-suc, add-mul, suc-add, pow-suc, zero-add, zero-div, lt-of-lt-of-le, lt-irrefl, not-suc-le-zero, le-of-suc-le-suc}
+use native.Mathlib.Numerals.{add-one}
 use native.Mathlib.Omega.{arith}
 use lib.ListN.{length, getD, set, List·getD-eq-default}
 use lib.Seq.{ext-getD, getD-set-same, getD-set-other}
 use borrow.Author.Count.{below-more}
-use lib.Pow.{high, low, pow-mono}
-use lib.Dec.{lit≤}
+use lib.Pow.{pow-mono}
 use Rattle.packing.specs.Packed.{bitAt, bitsFrom, packedAt, packedFrom, unpacked}
 
 -- ---- runs of bits

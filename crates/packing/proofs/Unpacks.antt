@@ -1,14 +1,12 @@
 -- What each way out of `unpack` comes to, over plain lists.
 -- Assumes nothing.
 use Prim.Native.Nat.{ℕ, _≤_}
-use mathlib.Core.Path.{_≡_, refl, ap, sym, _∙_}
-use mathlib.Core.List.{List, [], _∷_}
+use mathlib.Core.Path.{_≡_, ap, sym}
+use mathlib.Core.List.{List}
 use lib.ListN.{length, getD, drop}
-use lib.Dec.{eqb}
 use borrow.Author.Tests.{eq-eqb, ne-eqb}
-use Rattle.octets.specs.Octets.{beAt}
-use Rattle.layout.specs.Fields.{Value, none, plain, after, placed, valuesOf}
-use Rattle.layout.specs.Outcomes.{Outcome, refused, read, refusedBy, firstOf, andThen}
+use Rattle.layout.specs.Fields.{Value, none, plain, placed, valuesOf}
+use Rattle.layout.specs.Outcomes.{read, refusedBy, firstOf, andThen}
 use Rattle.layout.specs.declared.Refusal.{Refusal}
 use Rattle.layout.proofs.Untold.{nat}
 use Rattle.packing.specs.Packed.{unpacked}

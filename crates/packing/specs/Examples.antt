@@ -1,8 +1,8 @@
 -- Document 01's starred examples of sections 5 and 7.
 -- Assumes nothing.
-use Prim.Native.Nat.{ℕ, _+_}
+use Prim.Native.Nat.{_+_}
 use mathlib.Core.List.{List, [], _∷_, map}
-use lib.IntN.{ℤ, pos}
+use lib.IntN.{pos}
 use Rattle.layout.specs.Examples.{Example}
 use Rattle.packing.specs.Packed.{unpacked}
 use Rattle.packing.specs.Section7.{packedOctets}

@@ -1,25 +1,24 @@
 -- Each slot of a shelf holds the greatest card that was ever accepted for it, or is empty if none was; so shelves for whose slots the same cards were accepted are one shelf.
 -- Assumes nothing.
 use mathlib.Core.Path.{_≡_, refl, sym, ap, ap₂, subst, subst⁻¹, _∙_}
-use mathlib.Core.Bool.{Bool, true, false, cond, true≢false}
-use mathlib.Core.Logic.{_⊎_, inl, inr, ⊎-elim}
+use mathlib.Core.Bool.{Bool, true, false, cond}
+use mathlib.Core.Logic.{⊎-elim}
 use mathlib.Core.List.{List, [], _∷_, _++_, List·Memᴰ, List·Memᴰ·head, Memᴰ·append-left, Memᴰ·append-right, List·Memᴰ·append-cases, List·Memᴰ·eq-of-singleton, List·Memᴰ·not-nil, append-nil}
-use Prim.Native.Nat.{ℕ, _<_, _≤_}
+use Prim.Native.Nat.{ℕ, _<_}
 use native.Mathlib.Omega.{arith}
 use lib.Dec.{eqb}
-use lib.ListN.{length, getD, getD-replicate}
+use lib.ListN.{getD-replicate}
 use lib.Seq.{ext-getD}
 use borrow.Author.Tests.{eqb-true, eqb-false}
 use Rattle.card.specs.declared.Card.{Card}
 use Rattle.card.specs.Order.{maxOf}
 use Rattle.card.specs.Key.{lessCard, greaterCard}
-use Rattle.card.proofs.Strict.{Strict, not-trans, max-least-left, max-least-right, max-left, max-right}
+use Rattle.card.proofs.Strict.{not-trans, max-least-left, max-least-right, max-left, max-right}
 use Rattle.card.proofs.Cards.{card-strict}
 use Rattle.shelf.specs.declared.Slot.{Slot}
-use Rattle.shelf.specs.declared.Shelf.{Shelf}
-use Rattle.shelf.specs.Shelves.{greaterSlot, blank, holding, slotAt, emptyShelf, putShelf, joinShelf}
+use Rattle.shelf.specs.Shelves.{greaterSlot, blank, holding, slotAt, putShelf}
 use Rattle.shelf.specs.History.{History, start, put, join, shelfOf, acceptedAt, Keeps, nothing, greatest, Tidy}
-use Rattle.shelf.proofs.Slots.{slot-join, blank-greater, held-greater, greater-blank}
+use Rattle.shelf.proofs.Slots.{slot-join, blank-greater, held-greater}
 use Rattle.shelf.proofs.Laws.{shelf, tidy-empty, tidy-put, tidy-join, put-same, put-other, join-at}
 
 pub tidy : (h : History) → Tidy (shelfOf h)

@@ -2,13 +2,11 @@
 -- Assumes nothing.
 use mathlib.Core.Path.{_≡_, refl, sym, ap, _∙_}
 use mathlib.Core.Bool.{Bool, true, false}
-use mathlib.Core.List.{List, [], _∷_}
 use native.Mathlib.Omega.{arith}
 use Prim.Native.Nat.{ℕ}
-use lib.IntN.{ℤ, pos}
 use Rattle.card.specs.declared.Card.{Card}
 use Rattle.card.specs.Order.{lex, maxOf}
-use Rattle.card.specs.Key.{keyOf, lessCard, greaterCard}
+use Rattle.card.specs.Key.{lessCard, greaterCard}
 use Rattle.card.proofs.Strict.{Strict, Join, pulled, max-join, max-left, max-right}
 use Rattle.card.proofs.Lex.{lex-strict, lex-same, Z-strict}
 use Rattle.card.proofs.Cards.{key-apart, card-strict}

@@ -1,9 +1,9 @@
 use Rattle.octets.proofs.Free.{free}
 use Rattle.layout.specs.Outcomes.{read, firstOf}
 use Rattle.layout.proofs.Outcomes.{answer-is}
-use Rattle.packing.specs.Section5.{outcome₅, told₅, valuesIn₅, valuesAt}
+use Rattle.packing.specs.Section5.{outcome₅, told₅, valuesIn₅}
 use Rattle.packing.specs.Section7.{told₇}
-use Rattle.packing.proofs.Unpacks.{Known, known}
+use Rattle.packing.proofs.Unpacks.{known}
 use Rattle.field.specs.Field.{onward, packedOutcome, told}
 use mathlib.Core.Path.{_≡_, sym, _∙_}
 use denote.Ref.{now}

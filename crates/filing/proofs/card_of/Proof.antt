@@ -3,7 +3,6 @@ use Rattle.identification.specs.Section1.{valuesIn}
 use Rattle.filing.specs.Filing.{cardOf}
 use mir.Syntax.{w32}
 use mir.ValLaws.{toZ-ofZ}
-use borrow.Author.Needs.{needs}
 use Rattle.filing.proofs.card_of.Statement.{statement}
 use Rattle.filing.proofs.card_of.Tie as tie
 

@@ -1,9 +1,8 @@
 use Rattle.octets.proofs.Free.{free}
 use Rattle.layout.proofs.Outcomes.{answer-is}
 use Rattle.field.specs.Field.{told}
-use Rattle.shelf.specs.Shelves.{putOf}
-use Rattle.filing.specs.Filing.{filedOf, filedBy, filingOf, ofField, afterPut, cardOf}
-use mathlib.Core.Path.{_≡_, ap, _∙_}
+use Rattle.filing.specs.Filing.{filedOf, filedBy, filingOf, ofField, afterPut}
+use mathlib.Core.Path.{ap, _∙_}
 use borrow.Author.Tests.{lt-ltb, le-ltb}
 use borrow.Author.Needs.{needs}
 use Rattle.filing.proofs.file_by_value.Statement.{statement}

@@ -1,6 +1,4 @@
-use mathlib.Core.Path.{_≡_}
-use Prim.Native.Nat.{_≤_, _<_, _-_, _^_}
-use lib.ListN.{length, length-set}
+use Prim.Native.Nat.{_-_}
 use native.Mathlib.Omega.{arith}
 use Rattle.cases.proofs.shelves.show_shelf.Statement.{statement}
 use Rattle.cases.proofs.shelves.show_shelf.Tie as tie
