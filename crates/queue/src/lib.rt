@@ -1,0 +1,57 @@
+// Queues: the numbers of a record.
+ghost use mathlib.Core.Path.{_≡_};
+ghost use Rattle.queue.specs.Numbers.{groups, numberOf};
+
+// A number and how many octets it takes, or that none stands there.
+pub enum Number {
+    Found(u64, usize),
+    Malformed,
+}
+
+// The number at the start of these octets.
+pub fn number_of(octets: &[u8]) -> Number
+    ensures { λ r. ⌜ r ≡ numberOf (now (octets .entry)) ⌝ }
+{
+    let found = groups_of(octets);
+    match found {
+        Number::Found(n, count) => {
+            if 4294967296 < n {
+                return Number::Malformed;
+            }
+            Number::Found(n, count)
+        }
+        Number::Malformed => Number::Malformed,
+    }
+}
+
+// At most five groups. The first may be 0; a later last one that is 0 would be a longer form.
+fn groups_of(octets: &[u8]) -> Number
+    ensures { λ r. ⌜ r ≡ groups 5 (now (octets .entry)) ⌝ }
+{
+    if octets.len() == 0 {
+        return Number::Malformed;
+    }
+    let first = octets[0];
+    if first < 128 {
+        return Number::Found(first as u64, 1);
+    }
+    let mut value = first as u64 - 128;
+    let mut scale: u64 = 128;
+    let mut i: usize = 1;
+    while i < 5 {
+        if octets.len() <= i {
+            return Number::Malformed;
+        }
+        let group = octets[i] as u64;
+        if group < 128 {
+            if group == 0 {
+                return Number::Malformed;
+            }
+            return Number::Found(value + scale * group, i + 1);
+        }
+        value = value + scale * (group - 128);
+        scale = scale * 128;
+        i += 1;
+    }
+    Number::Malformed
+}
