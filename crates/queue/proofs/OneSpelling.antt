@@ -16,15 +16,15 @@ use Rattle.queue.specs.declared.Number.{Number}
 use Rattle.queue.specs.declared.Number.the-variants.{Found, Malformed}
 
 -- what stands behind a group with the top bit set
-record Behind (low n count : ℕ) (r : Number) : Type 0 where
-  rest : ℕ
-  octets : ℕ
-  follows : r ≡ Found rest octets
-  some : eqb rest 0 ≡ false
-  value : n ≡ low + 128 * rest
-  longer : count ≡ suc octets
+pub record Behind (low n count : ℕ) (r : Number) : Type 0 where
+  pub rest : ℕ
+  pub octets : ℕ
+  pub follows : r ≡ Found rest octets
+  pub some : eqb rest 0 ≡ false
+  pub value : n ≡ low + 128 * rest
+  pub longer : count ≡ suc octets
 
-behind : (low n count : ℕ) (r : Number) → before low r ≡ Found n count → Behind low n count r
+pub behind : (low n count : ℕ) (r : Number) → before low r ≡ Found n count → Behind low n count r
 behind low n count Malformed e = let z : _≡_ {A = ℕ} 0 1 = cc in absurd (omega arith)
 behind low n count (Found m k) e = by-zero (eqb m 0) refl e
   where
@@ -81,7 +81,7 @@ read-back (suc most) n rest h = by-size (decLe 128 n) (read-back most (n / 128) 
 
 -- ---- the numbers of a queue
 
-of-groups : (r : Number) (n count : ℕ) → bounded r ≡ Found n count → r ≡ Found n count
+pub of-groups : (r : Number) (n count : ℕ) → bounded r ≡ Found n count → r ≡ Found n count
 of-groups Malformed n count e = let z : _≡_ {A = ℕ} 0 1 = cc in absurd (omega arith)
 of-groups (Found m k) n count e = by-bound (ltb 4294967296 m) e
   where

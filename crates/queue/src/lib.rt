@@ -1,6 +1,7 @@
-// Queues: the numbers of a record.
+// Queues: the numbers of a record, and the record.
 ghost use mathlib.Core.Path.{_≡_};
 ghost use Rattle.queue.specs.Numbers.{groups, numberOf};
+ghost use Rattle.queue.specs.Records.{recordOf};
 
 // A number and how many octets it takes, or that none stands there.
 pub enum Number {
@@ -54,4 +55,43 @@ fn groups_of(octets: &[u8]) -> Number
         i += 1;
     }
     Number::Malformed
+}
+
+// The slot and the issue + 1 as the queue has them, and the body: the octets from index `start` up to index `end`.
+pub struct Head {
+    pub slot: u64,
+    pub stored: u64,
+    pub start: usize,
+    pub end: usize,
+}
+
+pub enum Record {
+    Whole(Head),
+    Broken,
+}
+
+// The record at the start of these octets.
+pub fn record_of(octets: &[u8]) -> Record
+    ensures { λ r. ⌜ r ≡ recordOf (now (octets .entry)) ⌝ }
+{
+    let Number::Found(slot, a) = number_of(octets) else {
+        return Record::Broken;
+    };
+    let Number::Found(stored, b) = number_of(&octets[a..]) else {
+        return Record::Broken;
+    };
+    let Number::Found(size, c) = number_of(&octets[a + b..]) else {
+        return Record::Broken;
+    };
+    let start = a + b + c;
+    let end = start + size as usize;
+    if octets.len() < end {
+        return Record::Broken;
+    }
+    Record::Whole(Head {
+        slot,
+        stored,
+        start,
+        end,
+    })
 }

@@ -1,0 +1,48 @@
+-- A number that is read stands within the octets, takes at most five of them, and is at most 4,294,967,296.
+-- Assumes nothing.
+use Prim.Native.Nat.{ℕ, zero, suc, _-_, _≤_}
+use native.Mathlib.Omega.{arith}
+use mathlib.Core.Path.{_≡_, refl, sym, _∙_}
+use mathlib.Core.Bool.{Bool, true, false, cond}
+use mathlib.Core.List.{List, [], _∷_}
+use lib.Dec.{ltb}
+use lib.ListN.{length}
+use borrow.Author.Tests.{ltb-false}
+use Rattle.queue.specs.Numbers.{before, groups, bounded, numberOf}
+use Rattle.queue.specs.declared.Number.{Number}
+use Rattle.queue.specs.declared.Number.the-variants.{Found, Malformed}
+use Rattle.queue.proofs.OneSpelling.{behind, of-groups}
+
+groups-taken : (most : ℕ) (s : List ℕ) (n count : ℕ) → groups most s ≡ Found n count → (count ≤ length s) × (count ≤ most)
+unfolding groups
+groups-taken zero s n count e = let z : _≡_ {A = ℕ} 0 1 = cc in absurd (omega arith)
+groups-taken (suc most) [] n count e = let z : _≡_ {A = ℕ} 0 1 = cc in absurd (omega arith)
+groups-taken (suc most) (x ∷ xs) n count e = by-top (groups-taken most xs) (ltb x 128) e
+  where
+    by-top : ((m k : ℕ) → groups most xs ≡ Found m k → (k ≤ length xs) × (k ≤ most)) → (t : Bool) → cond t (Found x 1) (before (x - 128) (groups most xs)) ≡ Found n count → (count ≤ suc (length xs)) × (count ≤ suc most)
+    by-top others true e = let one : count ≡ 1 = cc in (omega arith, omega arith)
+    by-top others false e =
+        let b = behind (x - 128) n count (groups most xs) e in
+        let h = others (b .rest) (b .octets) (b .follows) in
+        let longer = b .longer in (omega (arith, h .0, longer), omega (arith, h .1, longer))
+
+pub record Taken (s : List ℕ) (n count : ℕ) : Type 0 where
+  pub inside : count ≤ length s
+  pub few : count ≤ 5
+  pub small : n ≤ 4294967296
+
+pub taken : (s : List ℕ) (n count : ℕ) → numberOf s ≡ Found n count → Taken s n count
+unfolding numberOf
+taken s n count e =
+    let found = of-groups (groups 5 s) n count e in
+    let h = groups-taken 5 s n count found in
+    record { inside = h .0; few = h .1; small = by-bound (ltb 4294967296 n) refl (sym (ap-bounded found) ∙ e) }
+  where
+    ap-bounded : groups 5 s ≡ Found n count → bounded (groups 5 s) ≡ bounded (Found n count)
+    ap-bounded f = λ i. bounded (f i)
+
+    by-bound : (t : Bool) → ltb 4294967296 n ≡ t → cond (ltb 4294967296 n) Malformed (Found n count) ≡ Found n count → n ≤ 4294967296
+    by-bound false t e = ltb-false 4294967296 n t
+    by-bound true t e =
+        let gone : Malformed ≡ Found n count = rw t at e in
+        let z : _≡_ {A = ℕ} 0 1 = cc in absurd (omega arith)
