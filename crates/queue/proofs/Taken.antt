@@ -9,7 +9,6 @@ use lib.Dec.{ltb}
 use lib.ListN.{length}
 use borrow.Author.Tests.{ltb-false}
 use Rattle.queue.specs.Numbers.{before, groups, bounded, numberOf}
-use Rattle.queue.specs.declared.Number.{Number}
 use Rattle.queue.specs.declared.Number.the-variants.{Found, Malformed}
 use Rattle.queue.proofs.OneSpelling.{behind, of-groups}
 

@@ -1,7 +1,8 @@
-// Queues: the numbers of a record, and the record.
+// Queues: the numbers of a record, the record, and the sections in its body.
 ghost use mathlib.Core.Path.{_≡_};
 ghost use Rattle.queue.specs.Numbers.{groups, numberOf};
 ghost use Rattle.queue.specs.Records.{recordOf};
+ghost use Rattle.queue.specs.Bodies.{endAfter, bodyOf};
 
 // A number and how many octets it takes, or that none stands there.
 pub enum Number {
@@ -94,4 +95,70 @@ pub fn record_of(octets: &[u8]) -> Record
         start,
         end,
     })
+}
+
+// Where sections 1, 3, 4 and 5 of a body end: the index after each one's last octet, at which the next one starts.
+pub struct Ends {
+    pub one: usize,
+    pub three: usize,
+    pub four: usize,
+    pub five: usize,
+}
+
+pub enum Body {
+    Five(Ends),
+    NotFive,
+}
+
+// The five sections of a body.
+pub fn body_of(octets: &[u8]) -> Body
+    ensures { λ r. ⌜ r ≡ bodyOf (now (octets .entry)) ⌝ }
+{
+    let one = end_after(octets, 0);
+    if one == 0 {
+        return Body::NotFive;
+    }
+    let three = end_after(octets, one);
+    if three == 0 {
+        return Body::NotFive;
+    }
+    let four = end_after(octets, three);
+    if four == 0 {
+        return Body::NotFive;
+    }
+    let five = end_after(octets, four);
+    if five == 0 {
+        return Body::NotFive;
+    }
+    let seven = end_after(octets, five);
+    if seven == 0 {
+        return Body::NotFive;
+    }
+    if seven != octets.len() {
+        return Body::NotFive;
+    }
+    Body::Five(Ends {
+        one,
+        three,
+        four,
+        five,
+    })
+}
+
+// The index after the section that starts at index `start`, or 0 if there is none of 5 or more octets within the body.
+fn end_after(octets: &[u8], start: usize) -> usize
+    ensures { λ r. ⌜ r ≡ endAfter (now (octets .entry)) start ⌝ }
+{
+    if octets.len() < start {
+        return 0;
+    }
+    let size = octets::u32_at(octets, start + 1);
+    if size < 5 {
+        return 0;
+    }
+    let end = start + size as usize;
+    if octets.len() < end {
+        return 0;
+    }
+    end
 }

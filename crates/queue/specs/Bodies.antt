@@ -1,0 +1,28 @@
+-- The body of a record: the five sections back to back, cut by their own length octets; not exactly five sections of 5 or more octets is 20.
+-- Assumes nothing.
+use Prim.Native.Nat.{ℕ, _+_}
+use mathlib.Core.List.{List}
+use mathlib.Core.Bool.{cond}
+use lib.Dec.{ltb, eqb}
+use lib.ListN.{length}
+use Rattle.octets.specs.Octets.{beAt}
+use Rattle.queue.specs.declared.Body.{Body}
+use Rattle.queue.specs.declared.Body.the-variants.{Five, NotFive}
+
+-- after how many octets the section ends that starts after `start` octets, or 0: it has under 5 octets, or goes past the end
+unfoldable pub endAfter : List ℕ → ℕ → ℕ
+endAfter s start =
+    cond (ltb (beAt s (start + 1) 4) 5) 0 (cond (ltb (length s) (start + beAt s (start + 1) 4)) 0 (start + beAt s (start + 1) 4))
+
+-- the next section starts where this one ends, if it does
+abbrev pub onward : ℕ → (ℕ → Body) → Body
+onward end next = cond (eqb end 0) NotFive (next end)
+
+unfoldable pub bodyOf : List ℕ → Body
+bodyOf s =
+    onward (endAfter s 0)
+    (λ one. onward (endAfter s one)
+    (λ three. onward (endAfter s three)
+    (λ four. onward (endAfter s four)
+    (λ five. onward (endAfter s five)
+    (λ seven. cond (eqb seven (length s)) (Five (record { one = one; three = three; four = four; five = five })) NotFive)))))
