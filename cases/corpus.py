@@ -2,7 +2,8 @@
 
 Where the decoder differs from document 01, document 01 is right, and what the decoder gives is read again here: it takes the scaled
 values of surfaces, limits and sizes, the year beside an offset and the longitude of the southern pole as unsigned, and it has one
-name for the scale factor and the value of the cluster's distance, which are taken from the octets."""
+name for the scale factor and the value of the cluster's distance, which are taken from the octets. It has cut-off minutes of 255 as
+missing, which are raw here. Template 4.67, which three messages have, is not listed, so that their section 4 is refused with 6."""
 import json
 import pathlib
 
