@@ -113,13 +113,8 @@ for name, later in LATER:
     history(f"a {name} over an issue", filed(3, TOP), filed(3, 0, later), filed(3, TOP))
 history("an issue over the product", filed(3, 1, four=section4.section(0)), filed(3, 2, four=with_octet(FOUR, 10, 0)), filed(3, 1, four=FOUR))
 for at in range(10, 35):
-    if at in (19, 20, 21, 22):  # the forecast time, where less as octets isn't less as a number
-        continue
     less, more = with_octet(FOUR, at, 127), with_octet(FOUR, at, 128)
-    history(f"a tie that octet {at} of the product decides", filed(3, 1, four=less), filed(3, 1, four=more), filed(3, 1, four=less))
-for at, (less, more) in {19: (1, 129), 22: (4, 200)}.items():
-    a, b = with_octet(FOUR, at, less), with_octet(FOUR, at, more)
-    history(f"a tie that octet {at} of the product decides, as an octet", filed(3, 1, four=b), filed(3, 1, four=a), filed(3, 1, four=b))
+    history(f"a tie that octet {at} of the product decides, as an octet", filed(3, 1, four=less), filed(3, 1, four=more), filed(3, 1, four=less))
 history("octet 35 does not decide", filed(3, 1, four=section4.section(1)), filed(3, 1, four=with_octet(section4.section(1), 35, 255)))
 history("the template is of the product", *(filed(3, 1, four=section4.section(t)) for t in (8, 0, 9, 1, 46, 4)))
 history("years below zero", filed(2, 0, section1.section(1, year=0x8005, offset=0x8001)), filed(2, 0, section1.section(1, year=0x8004, offset=0x8001)),

@@ -5,13 +5,12 @@ use mathlib.Core.Path.{_≡_, ap}
 use mathlib.Core.List.{List}
 use lib.ListN.{getD}
 use Rattle.octets.specs.Octets.{beAt}
-use Rattle.layout.specs.Fields.{Value, none, placed, valuesOf}
+use Rattle.layout.specs.Fields.{Value, none, placed, valuesOf, naturalIn}
 use Rattle.layout.specs.Outcomes.{read}
-use Rattle.layout.proofs.Untold.{nat}
 use Rattle.grid.specs.Section3.{fields₃, gridHead, values₃, outcome₃, valuesIn}
 use Rattle.grid.specs.declared.Grid.{Grid}
 use Rattle.grid.proofs.AcceptedExactlyWhen.{accepted-follows}
 
 pub points-are : (s : List ℕ) (x : Grid) → outcome₃ s ≡ read (valuesIn x) → x .points ≡ beAt s 7 4
 unfolding valuesIn values₃ fields₃ gridHead placed valuesOf
-points-are s x e = ap (λ (vs : List Value). nat (getD vs 3 none)) (accepted-follows s (valuesIn x) e .2)
+points-are s x e = ap (λ (vs : List Value). naturalIn (getD vs 3 none)) (accepted-follows s (valuesIn x) e .2)

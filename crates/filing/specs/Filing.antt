@@ -7,7 +7,7 @@ use lib.ListN.{getD}
 use lib.Dec.{ltb, eqb}
 use lib.IntN.{ℤ, pos, natAbs}
 use Rattle.octets.specs.Octets.{part}
-use Rattle.layout.specs.Fields.{Value, none, missing, is}
+use Rattle.layout.specs.Fields.{Value, none, missing, is, wholeIn, naturalIn}
 use Rattle.field.specs.Field.{FieldOutcome, refusedField, readField, fieldOutcome}
 use Rattle.card.specs.declared.Card.{Card}
 use Rattle.shelf.specs.Shelves.{putOf}
@@ -29,25 +29,20 @@ abbrev pub issueOf : Issue → ℕ
 issueOf NotNamed = defaultIssue
 issueOf (Named n) = n
 
--- a whole number among the values of section 1, of which the real year is the last
-abbrev pub wholeIn : Value → ℤ
-wholeIn none = pos 0
-wholeIn missing = pos 0
-wholeIn (is z) = z
-
-abbrev pub numberIn : List Value → ℕ → ℕ
-numberIn one k = natAbs (wholeIn (getD one k none))
+-- the value at index k of those of section 1, of which the real year is the last
+abbrev pub valueAt : List Value → ℕ → Value
+valueAt one k = getD one k none
 
 -- the real reference time of section 1, the issue, and octets 8-34 of section 4
 unfoldable pub cardOf : List Value → ℕ → List ℕ → Card
 cardOf one issue s4 =
     record {
-      year = wholeIn (getD one 18 none);
-      month = numberIn one 8;
-      day = numberIn one 9;
-      hour = numberIn one 10;
-      minute = numberIn one 11;
-      second = numberIn one 12;
+      year = wholeIn (valueAt one 18);
+      month = naturalIn (valueAt one 8);
+      day = naturalIn (valueAt one 9);
+      hour = naturalIn (valueAt one 10);
+      minute = naturalIn (valueAt one 11);
+      second = naturalIn (valueAt one 12);
       issue = issue;
       product = part s4 8 27;
     }
@@ -61,7 +56,7 @@ foreign missing = false
 foreign (is z) = not (eqb (natAbs z) 0)
 
 abbrev pub foreignCalendar : List Value → Bool
-foreignCalendar one = foreign (getD one 16 none)
+foreignCalendar one = foreign (valueAt one 16)
 
 -- a refusal's number, section and place, or the card that is accepted
 pub data Filing : Type 0 where

@@ -4,9 +4,9 @@ use Prim.Native.Nat.{ℕ, zero, suc}
 use mathlib.Core.Path.{_≡_, refl, ap, sym, _∙_}
 use mathlib.Core.List.{List}
 use lib.ListN.{getD, drop}
-use Rattle.layout.specs.Fields.{Value, none}
+use Rattle.layout.specs.Fields.{Value, none, wholeIn, naturalIn}
 use Rattle.layout.specs.Outcomes.{Outcome, refused, read}
-use Rattle.layout.proofs.Untold.{int, nat, to8, back8, to32, back32, told-back}
+use Rattle.layout.proofs.Untold.{to32, back32, told-back}
 use Rattle.grid.specs.Section3.{told, valuesIn, scaledIn, earthIn, commonIn, poleIn, polesIn, outcome₃}
 use Rattle.grid.specs.declared.Scaled.{Scaled}
 use Rattle.grid.specs.declared.Common.{Common}
@@ -20,18 +20,18 @@ use Rattle.grid.specs.declared.Answer.the-variants.{Read, Refused}
 -- ---- blocks of values
 
 toScaled : List Value → Scaled
-toScaled vs = record { factor = to8 (getD vs 0 none); value = to32 (getD vs 1 none) }
+toScaled vs = record { factor = to32 (getD vs 0 none); value = to32 (getD vs 1 none) }
 
 scaled-back : (x : Scaled) → toScaled (scaledIn x) ≡ x
 unfolding toScaled scaledIn
-scaled-back x = λ i. record { factor = back8 (x .factor) i; value = back32 (x .value) i }
+scaled-back x = λ i. record { factor = back32 (x .factor) i; value = back32 (x .value) i }
 
 toPole : List Value → Pole
-toPole vs = record { latitude = int (getD vs 0 none); longitude = int (getD vs 1 none); «angle_or_factor» = nat (getD vs 2 none) }
+toPole vs = record { latitude = wholeIn (getD vs 0 none); longitude = wholeIn (getD vs 1 none); «angle_or_factor» = naturalIn (getD vs 2 none) }
 
 -- the first value tells which of them follow
 toPoles : List Value → Poles
-toPoles vs = by-tag (nat (getD vs 0 none))
+toPoles vs = by-tag (naturalIn (getD vs 0 none))
   where
     by-tag : ℕ → Poles
     by-tag zero = noPoles
@@ -52,23 +52,23 @@ toCommon : List Value → Common
 toCommon vs = record {
   earth =
       record {
-        shape = nat (getD vs 0 none);
+        shape = naturalIn (getD vs 0 none);
         radius = toScaled (drop 1 vs);
         «major_axis» = toScaled (drop 3 vs);
         «minor_axis» = toScaled (drop 5 vs);
       };
   ni = to32 (getD vs 7 none);
   nj = to32 (getD vs 8 none);
-  «basic_angle» = nat (getD vs 9 none);
+  «basic_angle» = naturalIn (getD vs 9 none);
   subdivisions = to32 (getD vs 10 none);
-  la1 = int (getD vs 11 none);
-  lo1 = int (getD vs 12 none);
-  «component_flags» = nat (getD vs 13 none);
-  la2 = int (getD vs 14 none);
-  lo2 = int (getD vs 15 none);
+  la1 = wholeIn (getD vs 11 none);
+  lo1 = wholeIn (getD vs 12 none);
+  «component_flags» = naturalIn (getD vs 13 none);
+  la2 = wholeIn (getD vs 14 none);
+  lo2 = wholeIn (getD vs 15 none);
   di = to32 (getD vs 16 none);
   dj = to32 (getD vs 17 none);
-  «scanning_mode» = nat (getD vs 18 none);
+  «scanning_mode» = naturalIn (getD vs 18 none);
 }
 
 untold : Outcome → Answer
@@ -76,13 +76,13 @@ untold (refused n s p) = Refused (record { number = n; section = s; place = p })
 untold (read vs) =
     Read
     (record {
-      length = nat (getD vs 0 none);
-      number = nat (getD vs 1 none);
-      source = nat (getD vs 2 none);
-      points = nat (getD vs 3 none);
-      «list_width» = nat (getD vs 4 none);
-      interpretation = nat (getD vs 5 none);
-      template = nat (getD vs 6 none);
+      length = naturalIn (getD vs 0 none);
+      number = naturalIn (getD vs 1 none);
+      source = naturalIn (getD vs 2 none);
+      points = naturalIn (getD vs 3 none);
+      «list_width» = naturalIn (getD vs 4 none);
+      interpretation = naturalIn (getD vs 5 none);
+      template = naturalIn (getD vs 6 none);
       common = toCommon (drop 7 vs);
       poles = toPoles (drop 26 vs);
     })

@@ -8,7 +8,7 @@ use lib.Dec.{ltb, leb, eqb}
 use Rattle.octets.specs.Octets.{beAt, allOnes}
 use Rattle.layout.specs.Fields.{Value, none, is, plain, unsigned, Field, held, shown, between, raw, ranged, signedPresent, optional, nonzeroOrMissing, lacking, tag, after, badPlace, valuesOf}
 use Rattle.layout.specs.Outcomes.{Outcome, refused, read, refusedBy, Reason, reason, badField, firstOf, headReasons}
-use Rattle.layout.specs.Missing.{in8, in32}
+use Rattle.layout.specs.Missing.{in32}
 use Rattle.layout.specs.declared.Refusal.{Refusal}
 use Rattle.grid.specs.declared.Template.{Template}
 use Rattle.grid.specs.declared.Template.the-variants.{LatLon, Rotated, Stretched, StretchedAndRotated}
@@ -201,7 +201,7 @@ list₃ s = shownIf (outcome₃ s) (drop (baseEnd (templateOf s)) s)
 -- ---- what a program's answer says
 
 unfoldable pub scaledIn : Scaled → List Value
-scaledIn x = in8 (x .factor) ∷ in32 (x .value) ∷ []
+scaledIn x = in32 (x .factor) ∷ in32 (x .value) ∷ []
 
 unfoldable pub earthIn : Earth → List Value
 earthIn x = plain (x .shape) ∷ (scaledIn (x .radius) ++ (scaledIn (x .«major_axis») ++ scaledIn (x .«minor_axis»)))

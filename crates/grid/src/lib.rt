@@ -7,7 +7,6 @@ ghost use Rattle.layout.specs.Fields.{after, badPlace, lowestBad, valuesOf};
 ghost use Rattle.layout.specs.Outcomes.{refused};
 ghost use Rattle.grid.specs.Section3.{outcome₃, asTemplate, fitting, templateNumbered, baseEnd, fields₃, scaled, earth, common, pole, poles, widthAllowed, hasList, isMissing, missingWith, agreedWithoutList, agreedWithList, agreed, listCount, listOctets, total, productAbove, sumOf, pointsOf, values₃, list₃, scaledIn, earthIn, commonIn, poleIn, polesIn, valuesIn, told, refusalIn};
 use layout::Refusal;
-use layout::U8OrMissing;
 use layout::U32OrMissing;
 
 // 3.0, 3.1, 3.2 and 3.3: latitude and longitude, rotated, stretched, or both.
@@ -20,7 +19,7 @@ pub enum Template {
 
 // A number of the earth's size, by its scale factor.
 pub struct Scaled {
-    pub factor: U8OrMissing,
+    pub factor: U32OrMissing,
     pub value: U32OrMissing,
 }
 

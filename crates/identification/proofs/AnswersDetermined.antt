@@ -5,10 +5,10 @@ use mathlib.Core.Path.{_≡_, refl, ap, sym, _∙_}
 use mathlib.Core.List.{List}
 use lib.ListN.{getD}
 use lib.IntN.{natAbs}
-use Rattle.layout.specs.Fields.{Value, none, missing, is}
+use Rattle.layout.specs.Fields.{Value, none, missing, is, wholeIn, naturalIn}
 use Rattle.layout.specs.Outcomes.{Outcome, refused, read}
 use Rattle.layout.specs.Time.{timeIn}
-use Rattle.layout.proofs.Untold.{int, nat, toTime, told-back}
+use Rattle.layout.proofs.Untold.{toTime, told-back}
 use Rattle.identification.specs.Section1.{told, valuesIn, numberIn, calendarIn, offsetIn, outcome₁}
 use Rattle.identification.specs.declared.TemplateNumber.{TemplateNumber}
 use Rattle.identification.specs.declared.TemplateNumber.the-variants.{None as noNumber, Is as isNumber}
@@ -59,21 +59,21 @@ untold (refused n s p) = Refused (record { number = n; section = s; place = p })
 untold (read vs) =
     Read
     (record {
-      length = nat (getD vs 0 none);
-      number = nat (getD vs 1 none);
-      centre = nat (getD vs 2 none);
-      «sub_centre» = nat (getD vs 3 none);
-      «master_version» = nat (getD vs 4 none);
-      «local_version» = nat (getD vs 5 none);
-      significance = nat (getD vs 6 none);
-      year = int (getD vs 7 none);
+      length = naturalIn (getD vs 0 none);
+      number = naturalIn (getD vs 1 none);
+      centre = naturalIn (getD vs 2 none);
+      «sub_centre» = naturalIn (getD vs 3 none);
+      «master_version» = naturalIn (getD vs 4 none);
+      «local_version» = naturalIn (getD vs 5 none);
+      significance = naturalIn (getD vs 6 none);
+      year = wholeIn (getD vs 7 none);
       time = toTime vs 8;
-      status = nat (getD vs 13 none);
-      «data_type» = nat (getD vs 14 none);
+      status = naturalIn (getD vs 13 none);
+      «data_type» = naturalIn (getD vs 14 none);
       template = toNumber (getD vs 15 none);
       calendar = toCalendar (getD vs 16 none);
       offset = toOffset (getD vs 17 none);
-      «real_year» = int (getD vs 18 none);
+      «real_year» = wholeIn (getD vs 18 none);
     })
 
 back : (a : Answer) → untold (told a) ≡ a

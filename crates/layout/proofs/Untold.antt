@@ -5,47 +5,16 @@ use mathlib.Core.List.{List}
 use Prim.Native.Nat.{ℕ, _+_}
 use lib.ListN.{getD}
 use lib.IntN.{ℤ, pos, natAbs}
-use Rattle.layout.specs.Fields.{Value, none, missing, is}
-use Rattle.layout.specs.Missing.{in8, in16, in32, inSigned}
+use Rattle.layout.specs.Fields.{Value, none, missing, is, naturalIn}
+use Rattle.layout.specs.Missing.{in32, inSigned}
 use Rattle.layout.specs.Time.{timeIn}
 use Rattle.layout.specs.declared.Time.{Time}
-use Rattle.layout.specs.declared.U8OrMissing.{U8OrMissing}
-use Rattle.layout.specs.declared.U8OrMissing.the-variants.{Missing as no8, Is as is8}
-use Rattle.layout.specs.declared.U16OrMissing.{U16OrMissing}
-use Rattle.layout.specs.declared.U16OrMissing.the-variants.{Missing as no16, Is as is16}
 use Rattle.layout.specs.declared.U32OrMissing.{U32OrMissing}
 use Rattle.layout.specs.declared.U32OrMissing.the-variants.{Missing as no32, Is as is32}
 use Rattle.layout.specs.declared.I32OrMissing.{I32OrMissing}
 use Rattle.layout.specs.declared.I32OrMissing.the-variants.{Missing as noSigned, Is as isSigned}
 
--- a signed number, and one that is not
-abbrev pub int : Value → ℤ
-int none = pos 0
-int missing = pos 0
-int (is z) = z
-
-abbrev pub nat : Value → ℕ
-nat v = natAbs (int v)
-
 -- one that may be missing
-abbrev pub to8 : Value → U8OrMissing
-to8 none = no8
-to8 missing = no8
-to8 (is z) = is8 (natAbs z)
-
-pub back8 : (x : U8OrMissing) → to8 (in8 x) ≡ x
-back8 no8 = refl
-back8 (is8 n) = refl
-
-abbrev pub to16 : Value → U16OrMissing
-to16 none = no16
-to16 missing = no16
-to16 (is z) = is16 (natAbs z)
-
-pub back16 : (x : U16OrMissing) → to16 (in16 x) ≡ x
-back16 no16 = refl
-back16 (is16 n) = refl
-
 abbrev pub to32 : Value → U32OrMissing
 to32 none = no32
 to32 missing = no32
@@ -70,12 +39,6 @@ backSigned (isSigned z) = refl
 pub told-back : {A B : Type 0} (tell : A → B) (back : B → A) → ((a : A) → back (tell a) ≡ a) → (a b : A) → tell a ≡ tell b → a ≡ b
 told-back tell back h a b e = sym (h a) ∙ ap back e ∙ h b
 
-pub same8 : (x y : U8OrMissing) → in8 x ≡ in8 y → x ≡ y
-same8 = told-back in8 to8 back8
-
-pub same16 : (x y : U16OrMissing) → in16 x ≡ in16 y → x ≡ y
-same16 = told-back in16 to16 back16
-
 pub same32 : (x y : U32OrMissing) → in32 x ≡ in32 y → x ≡ y
 same32 = told-back in32 to32 back32
 
@@ -86,11 +49,11 @@ sameSigned = told-back inSigned toSigned backSigned
 abbrev pub toTime : List Value → ℕ → Time
 toTime vs k =
     record {
-      month = nat (getD vs k none);
-      day = nat (getD vs (k + 1) none);
-      hour = nat (getD vs (k + 2) none);
-      minute = nat (getD vs (k + 3) none);
-      second = nat (getD vs (k + 4) none);
+      month = naturalIn (getD vs k none);
+      day = naturalIn (getD vs (k + 1) none);
+      hour = naturalIn (getD vs (k + 2) none);
+      minute = naturalIn (getD vs (k + 3) none);
+      second = naturalIn (getD vs (k + 4) none);
     }
 
 pub sameTime : (x y : Time) → timeIn x ≡ timeIn y → x ≡ y

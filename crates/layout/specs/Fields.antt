@@ -5,7 +5,7 @@ use mathlib.Core.Path.{_≡_}
 use mathlib.Core.List.{List, [], _∷_, _++_}
 use mathlib.Core.Bool.{Bool, true, not, cond, _&&_}
 use lib.Dec.{leb, eqb}
-use lib.IntN.{ℤ, pos}
+use lib.IntN.{ℤ, pos, natAbs}
 use Rattle.octets.specs.Octets.{beAt, part, signOf, allOnes}
 
 -- ---- values
@@ -18,6 +18,15 @@ pub data Value : Type 0 where
 
 abbrev pub plain : ℕ → Value
 plain x = is (pos x)
+
+-- the number that a value says, with its sign and without; 0 of one that says none
+abbrev pub wholeIn : Value → ℤ
+wholeIn none = pos 0
+wholeIn missing = pos 0
+wholeIn (is z) = z
+
+abbrev pub naturalIn : Value → ℕ
+naturalIn v = natAbs (wholeIn v)
 
 -- how the number in some octets says a value: as it is, by sign and magnitude, or so with all ones for missing
 pub data Meaning : Type 0 where

@@ -6,7 +6,7 @@ ghost use mathlib.Core.Bool.{cond};
 ghost use Rattle.octets.specs.Octets.{beAt};
 ghost use Rattle.layout.specs.Fields.{between, notOnes, notZero, means, unsigned, signed, orMissing, after, valuesOf, lowestBad};
 ghost use Rattle.layout.specs.Outcomes.{headReasons, firstNumber};
-ghost use Rattle.layout.specs.Missing.{in8, in16, in32, inSigned};
+ghost use Rattle.layout.specs.Missing.{in32, inSigned};
 ghost use Rattle.layout.specs.Time.{time, timeIn};
 
 // Why something was refused: document 01's number, the section asked for, and the place.
@@ -87,16 +87,7 @@ pub fn nonzero32(s: &[u8], at: usize, later: usize) -> usize
 
 // ---- numbers that may be missing
 
-pub enum U8OrMissing {
-    Missing,
-    Is(u8),
-}
-
-pub enum U16OrMissing {
-    Missing,
-    Is(u16),
-}
-
+// A number of whatever octet count.
 pub enum U32OrMissing {
     Missing,
     Is(u32),
@@ -108,25 +99,25 @@ pub enum I32OrMissing {
     Is(i32),
 }
 
-pub fn u8_or_missing(s: &[u8], at: usize) -> U8OrMissing
-    ensures { λ r. ⌜ in8 r ≡ means (orMissing unsigned) 1 (beAt (now (s .entry)) at 1) ⌝ }
+pub fn u8_or_missing(s: &[u8], at: usize) -> U32OrMissing
+    ensures { λ r. ⌜ in32 r ≡ means (orMissing unsigned) 1 (beAt (now (s .entry)) at 1) ⌝ }
 {
     let x = octets::u8_at(s, at);
     if x == 0xff {
-        U8OrMissing::Missing
+        U32OrMissing::Missing
     } else {
-        U8OrMissing::Is(x)
+        U32OrMissing::Is(x as u32)
     }
 }
 
-pub fn u16_or_missing(s: &[u8], at: usize) -> U16OrMissing
-    ensures { λ r. ⌜ in16 r ≡ means (orMissing unsigned) 2 (beAt (now (s .entry)) at 2) ⌝ }
+pub fn u16_or_missing(s: &[u8], at: usize) -> U32OrMissing
+    ensures { λ r. ⌜ in32 r ≡ means (orMissing unsigned) 2 (beAt (now (s .entry)) at 2) ⌝ }
 {
     let x = octets::u16_at(s, at);
     if x == 0xffff {
-        U16OrMissing::Missing
+        U32OrMissing::Missing
     } else {
-        U16OrMissing::Is(x)
+        U32OrMissing::Is(x as u32)
     }
 }
 

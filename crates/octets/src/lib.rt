@@ -1,5 +1,5 @@
 // Numbers in the octets of a lent slice: big-endian, and sign and magnitude. Octets are counted from 1, as document 01
-// does, and an octet that is not there counts as 0, so every function takes every input.
+// does, and an octet that is not there counts as 0, so every public function takes every input.
 ghost use mathlib.Core.Path.{_≡_};
 ghost use mathlib.Core.Bool.{cond};
 ghost use Prim.Native.Nat.{_-_, _*_, _^_, _<_, _≤_};

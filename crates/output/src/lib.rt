@@ -3,8 +3,6 @@
 use layout::I32OrMissing;
 use layout::Refusal;
 use layout::Time;
-use layout::U8OrMissing;
-use layout::U16OrMissing;
 use layout::U32OrMissing;
 
 pub fn text(words: &[u8]) {
@@ -43,24 +41,10 @@ fn missing(words: &[u8]) {
     text(b"missing");
 }
 
-pub fn u8_or_missing(words: &[u8], x: U8OrMissing) {
-    match x {
-        U8OrMissing::Is(n) => number(words, n as u64),
-        U8OrMissing::Missing => missing(words),
-    }
-}
-
 pub fn u32_or_missing(words: &[u8], x: U32OrMissing) {
     match x {
         U32OrMissing::Is(n) => number(words, n as u64),
         U32OrMissing::Missing => missing(words),
-    }
-}
-
-pub fn u16_or_missing(words: &[u8], x: U16OrMissing) {
-    match x {
-        U16OrMissing::Is(n) => number(words, n as u64),
-        U16OrMissing::Missing => missing(words),
     }
 }
 

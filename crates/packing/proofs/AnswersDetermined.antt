@@ -4,9 +4,9 @@ use Prim.Native.Nat.{ℕ}
 use mathlib.Core.Path.{_≡_, refl, ap, sym, _∙_}
 use mathlib.Core.List.{List}
 use lib.ListN.{getD}
-use Rattle.layout.specs.Fields.{none}
+use Rattle.layout.specs.Fields.{none, wholeIn, naturalIn}
 use Rattle.layout.specs.Outcomes.{Outcome, refused, read}
-use Rattle.layout.proofs.Untold.{int, nat, told-back}
+use Rattle.layout.proofs.Untold.{told-back}
 use Rattle.packing.specs.Section5.{told₅, valuesIn₅, outcome₅}
 use Rattle.packing.specs.Section7.{told₇, valuesIn₇, outcome₇}
 use Rattle.packing.specs.Unpacking.{toldUnpacked, Unpacks}
@@ -25,15 +25,15 @@ untold₅ (refused n s p) = Refused₅ (record { number = n; section = s; place 
 untold₅ (read vs) =
     Read₅
     (record {
-      length = nat (getD vs 0 none);
-      number = nat (getD vs 1 none);
-      values = nat (getD vs 2 none);
-      template = nat (getD vs 3 none);
-      reference = nat (getD vs 4 none);
-      «binary_scale» = int (getD vs 5 none);
-      «decimal_scale» = int (getD vs 6 none);
-      bits = nat (getD vs 7 none);
-      «value_type» = nat (getD vs 8 none);
+      length = naturalIn (getD vs 0 none);
+      number = naturalIn (getD vs 1 none);
+      values = naturalIn (getD vs 2 none);
+      template = naturalIn (getD vs 3 none);
+      reference = naturalIn (getD vs 4 none);
+      «binary_scale» = wholeIn (getD vs 5 none);
+      «decimal_scale» = wholeIn (getD vs 6 none);
+      bits = naturalIn (getD vs 7 none);
+      «value_type» = naturalIn (getD vs 8 none);
     })
 
 back₅ : (a : Answer) → untold₅ (told₅ a) ≡ a
@@ -53,7 +53,7 @@ same-record₅ x y e = let r : Read₅ x ≡ Read₅ y = told-back told₅ untol
 
 untold₇ : Outcome → DataAnswer
 untold₇ (refused n s p) = Refused₇ (record { number = n; section = s; place = p })
-untold₇ (read vs) = Read₇ (record { length = nat (getD vs 0 none); number = nat (getD vs 1 none) })
+untold₇ (read vs) = Read₇ (record { length = naturalIn (getD vs 0 none); number = naturalIn (getD vs 1 none) })
 
 back₇ : (a : DataAnswer) → untold₇ (told₇ a) ≡ a
 unfolding untold₇ told₇ valuesIn₇
@@ -67,7 +67,7 @@ determined₇ n bits s a b p q = told-back told₇ untold₇ back₇ a b (p ∙ 
 
 untold : Outcome → Unpacked
 untold (refused n s p) = Refused (record { number = n; section = s; place = p })
-untold (read vs) = Written (nat (getD vs 0 none))
+untold (read vs) = Written (naturalIn (getD vs 0 none))
 
 back : (a : Unpacked) → untold (toldUnpacked a) ≡ a
 unfolding untold toldUnpacked

@@ -5,10 +5,9 @@ use mathlib.Core.Path.{_≡_, ap, sym}
 use mathlib.Core.List.{List}
 use lib.ListN.{length, getD, drop}
 use borrow.Author.Tests.{eq-eqb, ne-eqb}
-use Rattle.layout.specs.Fields.{Value, none, plain, placed, valuesOf}
+use Rattle.layout.specs.Fields.{Value, none, plain, placed, valuesOf, naturalIn}
 use Rattle.layout.specs.Outcomes.{read, refusedBy, firstOf, andThen}
 use Rattle.layout.specs.declared.Refusal.{Refusal}
-use Rattle.layout.proofs.Untold.{nat}
 use Rattle.packing.specs.Packed.{unpacked}
 use Rattle.packing.specs.Section5.{fields₅, valuesAt, bitsAt, outcome₅, valuesIn₅}
 use Rattle.packing.specs.Section7.{outcome₇}
@@ -27,8 +26,8 @@ pub known : (five : List ℕ) (x : Packing) → outcome₅ five ≡ read (values
 unfolding valuesIn₅ fields₅ placed valuesOf
 known five x e =
     let f = accepted-follows₅ five (valuesIn₅ x) e in
-    let bits : x .bits ≡ bitsAt five = ap (λ (vs : List Value). nat (getD vs 7 none)) (f .1) in
-    record { values = ap (λ (vs : List Value). nat (getD vs 2 none)) (f .1); bits = bits; narrow = rw bits (f .0 .bits) }
+    let bits : x .bits ≡ bitsAt five = ap (λ (vs : List Value). naturalIn (getD vs 7 none)) (f .1) in
+    record { values = ap (λ (vs : List Value). naturalIn (getD vs 2 none)) (f .1); bits = bits; narrow = rw bits (f .0 .bits) }
 
 module _ (five seven row : List ℕ) where
   -- a refusal is handed on, and the row stays

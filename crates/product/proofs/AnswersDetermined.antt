@@ -5,10 +5,10 @@ use mathlib.Core.Path.{_≡_, refl, ap, sym, _∙_}
 use mathlib.Core.List.{List, _++_}
 use lib.ListN.{drop, getD}
 use lib.IntN.{natAbs}
-use Rattle.layout.specs.Fields.{Value, none, missing, is}
+use Rattle.layout.specs.Fields.{Value, none, missing, is, wholeIn, naturalIn}
 use Rattle.layout.specs.Outcomes.{Outcome, refused, read}
 use Rattle.layout.specs.Time.{timeIn}
-use Rattle.layout.proofs.Untold.{int, nat, to16, back16, toSigned, backSigned, toTime, told-back}
+use Rattle.layout.proofs.Untold.{to32, back32, toSigned, backSigned, toTime, told-back}
 use Rattle.product.specs.Blocks.{parameterIn, processIn, forecastIn, scaledIn, surfaceIn, ensembleIn, clusterIn, probabilityIn, aerosolIn, endIn, intervalIn}
 use Rattle.product.specs.Section4.{tagIn, aheadIn, behindIn, valuesIn, told, outcome₄}
 use Rattle.product.specs.declared.Process.{Process}
@@ -27,11 +27,11 @@ use Rattle.product.specs.declared.Answer.the-variants.{Read, Refused}
 toProcess : List Value → Process
 toProcess vs =
     record {
-      kind = nat (getD vs 0 none);
-      background = nat (getD vs 1 none);
-      identifier = nat (getD vs 2 none);
-      «cutoff_hours» = to16 (getD vs 3 none);
-      «cutoff_minutes» = nat (getD vs 4 none);
+      kind = naturalIn (getD vs 0 none);
+      background = naturalIn (getD vs 1 none);
+      identifier = naturalIn (getD vs 2 none);
+      «cutoff_hours» = to32 (getD vs 3 none);
+      «cutoff_minutes» = naturalIn (getD vs 4 none);
     }
 
 process-back : (x : Process) (rest : List Value) → toProcess (processIn x ++ rest) ≡ x
@@ -41,7 +41,7 @@ process-back x rest =
       kind = x .kind;
       background = x .background;
       identifier = x .identifier;
-      «cutoff_hours» = back16 (x .«cutoff_hours») i;
+      «cutoff_hours» = back32 (x .«cutoff_hours») i;
       «cutoff_minutes» = x .«cutoff_minutes»;
     }
 
@@ -53,7 +53,7 @@ unfolding toScaled scaledIn
 scaled-back x rest = λ i. record { factor = backSigned (x .factor) i; value = backSigned (x .value) i }
 
 toSurface : List Value → Surface
-toSurface vs = record { kind = nat (getD vs 0 none); level = toScaled (drop 1 vs) }
+toSurface vs = record { kind = naturalIn (getD vs 0 none); level = toScaled (drop 1 vs) }
 
 surface-back : (x : Surface) (rest : List Value) → toSurface (surfaceIn x ++ rest) ≡ x
 unfolding toSurface surfaceIn
@@ -70,8 +70,8 @@ toInterval vs = by (getD vs 0 none)
         (record {
           year = natAbs year;
           time = toTime vs 1;
-          ranges = nat (getD vs 6 none);
-          missing = nat (getD vs 7 none);
+          ranges = naturalIn (getD vs 6 none);
+          missing = naturalIn (getD vs 7 none);
         })
 
 interval-back : (x : Interval) → toInterval (intervalIn x) ≡ x
@@ -86,43 +86,43 @@ toPart zero ahead behind = partNone
 toPart (suc zero) ahead behind =
     isEnsemble
     (record {
-      kind = nat (getD behind 0 none);
-      perturbation = nat (getD behind 1 none);
-      forecasts = nat (getD behind 2 none);
+      kind = naturalIn (getD behind 0 none);
+      perturbation = naturalIn (getD behind 1 none);
+      forecasts = naturalIn (getD behind 2 none);
     })
 toPart (suc (suc zero)) ahead behind =
     isCluster
     (record {
-      derived = nat (getD behind 0 none);
-      forecasts = nat (getD behind 1 none);
-      identifier = nat (getD behind 2 none);
-      «high_control» = nat (getD behind 3 none);
-      «low_control» = nat (getD behind 4 none);
-      clusters = nat (getD behind 5 none);
-      method = nat (getD behind 6 none);
-      latitude = nat (getD behind 7 none);
-      longitude = nat (getD behind 8 none);
-      radius = nat (getD behind 9 none);
-      members = nat (getD behind 10 none);
-      «deviation_factor» = nat (getD behind 11 none);
-      deviation = nat (getD behind 12 none);
-      «distance_factor» = nat (getD behind 13 none);
-      distance = nat (getD behind 14 none);
+      derived = naturalIn (getD behind 0 none);
+      forecasts = naturalIn (getD behind 1 none);
+      identifier = naturalIn (getD behind 2 none);
+      «high_control» = naturalIn (getD behind 3 none);
+      «low_control» = naturalIn (getD behind 4 none);
+      clusters = naturalIn (getD behind 5 none);
+      method = naturalIn (getD behind 6 none);
+      latitude = naturalIn (getD behind 7 none);
+      longitude = naturalIn (getD behind 8 none);
+      radius = naturalIn (getD behind 9 none);
+      members = naturalIn (getD behind 10 none);
+      «deviation_factor» = naturalIn (getD behind 11 none);
+      deviation = naturalIn (getD behind 12 none);
+      «distance_factor» = naturalIn (getD behind 13 none);
+      distance = naturalIn (getD behind 14 none);
     })
 toPart (suc (suc (suc zero))) ahead behind =
     isProbability
     (record {
-      number = nat (getD behind 0 none);
-      probabilities = nat (getD behind 1 none);
-      kind = nat (getD behind 2 none);
+      number = naturalIn (getD behind 0 none);
+      probabilities = naturalIn (getD behind 1 none);
+      kind = naturalIn (getD behind 2 none);
       lower = toScaled (drop 3 behind);
       upper = toScaled (drop 5 behind);
     })
 toPart (suc (suc (suc (suc n)))) ahead behind =
     isAerosol
     (record {
-      kind = nat (getD ahead 0 none);
-      «interval_of_sizes» = nat (getD ahead 1 none);
+      kind = naturalIn (getD ahead 0 none);
+      «interval_of_sizes» = naturalIn (getD ahead 1 none);
       first = toScaled (drop 2 ahead);
       second = toScaled (drop 4 ahead);
     })
@@ -185,18 +185,18 @@ skip-behind (isAerosol x) rest = refl
 
 toProduct : List Value → Product
 toProduct vs =
-    let t = nat (getD vs 4 none) in
+    let t = naturalIn (getD vs 4 none) in
     let ahead = drop 7 vs in
     let common = drop (aheadCount t) ahead in
     let behind = drop 13 common in
     record {
-      length = nat (getD vs 0 none);
-      number = nat (getD vs 1 none);
-      coordinates = nat (getD vs 2 none);
-      template = nat (getD vs 3 none);
-      parameter = record { category = nat (getD vs 5 none); number = nat (getD vs 6 none) };
+      length = naturalIn (getD vs 0 none);
+      number = naturalIn (getD vs 1 none);
+      coordinates = naturalIn (getD vs 2 none);
+      template = naturalIn (getD vs 3 none);
+      parameter = record { category = naturalIn (getD vs 5 none); number = naturalIn (getD vs 6 none) };
       process = toProcess common;
-      forecast = record { unit = nat (getD common 5 none); time = int (getD common 6 none) };
+      forecast = record { unit = naturalIn (getD common 5 none); time = wholeIn (getD common 6 none) };
       «first_surface» = toSurface (drop 7 common);
       «second_surface» = toSurface (drop 10 common);
       part = toPart t ahead behind;
@@ -219,7 +219,7 @@ product-back x =
       template = x .template;
       parameter = x .parameter;
       process = (ap toProcess skipped ∙ process-back (x .process) (forecastIn (x .forecast) ++ first)) i;
-      forecast = record { unit = nat (getD (skipped i) 5 none); time = int (getD (skipped i) 6 none) };
+      forecast = record { unit = naturalIn (getD (skipped i) 5 none); time = wholeIn (getD (skipped i) 6 none) };
       «first_surface» = (ap (λ (vs : List Value). toSurface (drop 7 vs)) skipped ∙ surface-back (x .«first_surface») second) i;
       «second_surface» = (ap (λ (vs : List Value). toSurface (drop 10 vs)) skipped ∙ surface-back (x .«second_surface») behind) i;
       part = (ap (λ (vs : List Value). toPart (tagIn (x .part)) (aheadIn (x .part) ++ common) (drop 13 vs)) skipped ∙ part-back (x .part) common (intervalIn (x .interval))) i;

@@ -3,7 +3,7 @@
 -- Assumes nothing.
 use mathlib.Core.List.{List, [], _∷_, _++_}
 use Rattle.layout.specs.Fields.{Value, none, is, plain, Field, raw, present, signedPresent, optional, optionalSigned}
-use Rattle.layout.specs.Missing.{in16, inSigned}
+use Rattle.layout.specs.Missing.{in32, inSigned}
 use Rattle.layout.specs.Time.{time, timeIn}
 use Rattle.product.specs.declared.Parameter.{Parameter}
 use Rattle.product.specs.declared.Process.{Process}
@@ -40,7 +40,7 @@ processIn x =
     plain (x .kind)
     ∷ plain (x .background)
     ∷ plain (x .identifier)
-    ∷ in16 (x .«cutoff_hours»)
+    ∷ in32 (x .«cutoff_hours»)
     ∷ plain (x .«cutoff_minutes»)
     ∷ []
 

@@ -12,7 +12,7 @@ ghost use Rattle.product.specs.Views.{templateRead, rangeOf, membersOf, 
 use layout::I32OrMissing;
 use layout::Refusal;
 use layout::Time;
-use layout::U16OrMissing;
+use layout::U32OrMissing;
 
 // Which part a template has.
 pub enum PartKind {
@@ -39,7 +39,7 @@ pub struct Process {
     pub kind: u8,
     pub background: u8,
     pub identifier: u8,
-    pub cutoff_hours: U16OrMissing,
+    pub cutoff_hours: U32OrMissing,
     pub cutoff_minutes: u8,
 }
 

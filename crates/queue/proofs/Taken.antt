@@ -2,7 +2,7 @@
 -- Assumes nothing.
 use Prim.Native.Nat.{ℕ, zero, suc, _-_, _≤_}
 use native.Mathlib.Omega.{arith}
-use mathlib.Core.Path.{_≡_, refl, sym, _∙_}
+use mathlib.Core.Path.{_≡_, refl, ap, sym, _∙_}
 use mathlib.Core.Bool.{Bool, true, false, cond}
 use mathlib.Core.List.{List, [], _∷_}
 use lib.Dec.{ltb}
@@ -35,11 +35,8 @@ unfolding numberOf
 taken s n count e =
     let found = of-groups (groups 5 s) n count e in
     let h = groups-taken 5 s n count found in
-    record { inside = h .0; few = h .1; small = by-bound (ltb 4294967296 n) refl (sym (ap-bounded found) ∙ e) }
+    record { inside = h .0; few = h .1; small = by-bound (ltb 4294967296 n) refl (sym (ap bounded found) ∙ e) }
   where
-    ap-bounded : groups 5 s ≡ Found n count → bounded (groups 5 s) ≡ bounded (Found n count)
-    ap-bounded f = λ i. bounded (f i)
-
     by-bound : (t : Bool) → ltb 4294967296 n ≡ t → cond (ltb 4294967296 n) Malformed (Found n count) ≡ Found n count → n ≤ 4294967296
     by-bound false t e = ltb-false 4294967296 n t
     by-bound true t e =

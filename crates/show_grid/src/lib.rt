@@ -77,7 +77,7 @@ fn show_scaled(words: &[u8], x: Scaled) {
     let value = x.value;
     output::text(b" ");
     output::text(words);
-    output::u8_or_missing(b"factor", factor);
+    output::u32_or_missing(b"factor", factor);
     output::u32_or_missing(b"value", value);
 }
 

@@ -63,7 +63,7 @@ fn show_process(x: Process) {
     output::number(b"background", x.background as u64);
     output::number(b"identifier", x.identifier as u64);
     let hours = x.cutoff_hours;
-    output::u16_or_missing(b"cutoff_hours", hours);
+    output::u32_or_missing(b"cutoff_hours", hours);
     output::number(b"cutoff_minutes", x.cutoff_minutes as u64);
 }
 
