@@ -1,3 +1,6 @@
 pub mod Numbers
 pub mod OneSpelling
 pub mod Taken
+pub mod Cuts
+pub mod Walks
+pub mod Counting

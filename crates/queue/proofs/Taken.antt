@@ -1,4 +1,4 @@
--- A number that is read stands within the octets, takes at most five of them, and is at most 4,294,967,296.
+-- A number that is read stands within the octets, takes one to five of them, and is at most 4,294,967,296.
 -- Assumes nothing.
 use Prim.Native.Nat.{ℕ, zero, suc, _-_, _≤_}
 use native.Mathlib.Omega.{arith}
@@ -12,22 +12,23 @@ use Rattle.queue.specs.Numbers.{before, groups, bounded, numberOf}
 use Rattle.queue.specs.declared.Number.the-variants.{Found, Malformed}
 use Rattle.queue.proofs.OneSpelling.{behind, of-groups}
 
-groups-taken : (most : ℕ) (s : List ℕ) (n count : ℕ) → groups most s ≡ Found n count → (count ≤ length s) × (count ≤ most)
+groups-taken : (most : ℕ) (s : List ℕ) (n count : ℕ) → groups most s ≡ Found n count → (count ≤ length s) × (count ≤ most) × (1 ≤ count)
 unfolding groups
 groups-taken zero s n count e = let z : _≡_ {A = ℕ} 0 1 = cc in absurd (omega arith)
 groups-taken (suc most) [] n count e = let z : _≡_ {A = ℕ} 0 1 = cc in absurd (omega arith)
 groups-taken (suc most) (x ∷ xs) n count e = by-top (groups-taken most xs) (ltb x 128) e
   where
-    by-top : ((m k : ℕ) → groups most xs ≡ Found m k → (k ≤ length xs) × (k ≤ most)) → (t : Bool) → cond t (Found x 1) (before (x - 128) (groups most xs)) ≡ Found n count → (count ≤ suc (length xs)) × (count ≤ suc most)
-    by-top others true e = let one : count ≡ 1 = cc in (omega arith, omega arith)
+    by-top : ((m k : ℕ) → groups most xs ≡ Found m k → (k ≤ length xs) × (k ≤ most) × (1 ≤ k)) → (t : Bool) → cond t (Found x 1) (before (x - 128) (groups most xs)) ≡ Found n count → (count ≤ suc (length xs)) × (count ≤ suc most) × (1 ≤ count)
+    by-top others true e = let one : count ≡ 1 = cc in (omega arith, omega arith, omega arith)
     by-top others false e =
         let b = behind (x - 128) n count (groups most xs) e in
         let h = others (b .rest) (b .octets) (b .follows) in
-        let longer = b .longer in (omega (arith, h .0, longer), omega (arith, h .1, longer))
+        let longer = b .longer in (omega (arith, h .0, longer), omega (arith, h .1, longer), omega (arith, longer))
 
 pub record Taken (s : List ℕ) (n count : ℕ) : Type 0 where
   pub inside : count ≤ length s
   pub few : count ≤ 5
+  pub some : 1 ≤ count
   pub small : n ≤ 4294967296
 
 pub taken : (s : List ℕ) (n count : ℕ) → numberOf s ≡ Found n count → Taken s n count
@@ -35,7 +36,7 @@ unfolding numberOf
 taken s n count e =
     let found = of-groups (groups 5 s) n count e in
     let h = groups-taken 5 s n count found in
-    record { inside = h .0; few = h .1; small = by-bound (ltb 4294967296 n) refl (sym (ap bounded found) ∙ e) }
+    record { inside = h .0; few = h .1; some = h .2; small = by-bound (ltb 4294967296 n) refl (sym (ap bounded found) ∙ e) }
   where
     by-bound : (t : Bool) → ltb 4294967296 n ≡ t → cond (ltb 4294967296 n) Malformed (Found n count) ≡ Found n count → n ≤ 4294967296
     by-bound false t e = ltb-false 4294967296 n t

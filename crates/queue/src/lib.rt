@@ -1,8 +1,15 @@
-// Queues: the numbers of a record, the record, and the sections in its body.
+// Queues: how one is cut into records and their bodies into sections, and filing one, record by record.
 ghost use mathlib.Core.Path.{_≡_};
+ghost use Prim.Native.Nat.{_^_, _<_, _≤_};
 ghost use Rattle.queue.specs.Numbers.{groups, numberOf};
-ghost use Rattle.queue.specs.Records.{recordOf};
+ghost use Rattle.queue.specs.Records.{recordOf, issueFrom};
 ghost use Rattle.queue.specs.Bodies.{endAfter, bodyOf};
+ghost use Rattle.queue.specs.Queues.{between, recordIn, recordFiled, cutOf, counted, total, oneMore, recordsFiled, fromStart, queueRefusal, refusedQueue, queueFiled};
+use filing::Answer;
+use filing::Filed;
+use filing::Issue;
+use layout::Refusal;
+use shelf::Shelf;
 
 // A number and how many octets it takes, or that none stands there.
 pub enum Number {
@@ -58,10 +65,10 @@ fn groups_of(octets: &[u8]) -> Number
     Number::Malformed
 }
 
-// The slot and the issue + 1 as the queue has them, and the body: the octets from index `start` up to index `end`.
+// The slot and the issue that the queue has, and where the body stands: from index `start` up to index `end`.
 pub struct Head {
     pub slot: u64,
-    pub stored: u64,
+    pub issue: Issue,
     pub start: usize,
     pub end: usize,
 }
@@ -89,12 +96,24 @@ pub fn record_of(octets: &[u8]) -> Record
     if octets.len() < end {
         return Record::Broken;
     }
+    let issue = issue_from(stored);
     Record::Whole(Head {
         slot,
-        stored,
+        issue,
         start,
         end,
     })
+}
+
+// A queue has the issue + 1, and 0 where none is named.
+fn issue_from(stored: u64) -> Issue
+    requires { ⌜ stored ≤ 4294967296 ⌝ }
+    ensures { λ r. ⌜ r ≡ issueFrom stored ⌝ }
+{
+    if stored == 0 {
+        return Issue::NotNamed;
+    }
+    Issue::Named((stored - 1) as u32)
 }
 
 // Where sections 1, 3, 4 and 5 of a body end: the index after each one's last octet, at which the next one starts.
@@ -161,4 +180,163 @@ fn end_after(octets: &[u8], start: usize) -> usize
         return 0;
     }
     end
+}
+
+// The octets from index `start` up to index `end`, as far as they are there.
+fn between(octets: &[u8], start: usize, end: usize) -> &[u8]
+    ensures { λ r. ⌜ now r ≡ between (now (octets .entry)) start end ⌝ }
+{
+    if end < start {
+        return octets::part_after(octets, start, 0);
+    }
+    octets::part_after(octets, start, end - start)
+}
+
+// Files the record whose head this is and which stands at the start of these octets: 20, or as its five sections are filed. They are
+// parts of what is lent, and only the card's octets are copied.
+pub fn file_record(shelf: Shelf, octets: &[u8], head: Head) -> Filed
+    ensures { λ r. ⌜ r ≡ recordFiled shelf (recordIn (now (octets .entry)) head) ⌝ }
+{
+    let body = between(octets, head.start, head.end);
+    let cut = body_of(body);
+    let Body::Five(ends) = cut else {
+        return Filed {
+            shelf,
+            answer: Answer::Refused(Refusal {
+                number: 20,
+                section: 0,
+                place: 0,
+            }),
+        };
+    };
+    let issue = head.issue;
+    let section1 = between(body, 0, ends.one);
+    let section3 = between(body, ends.one, ends.three);
+    let section4 = between(body, ends.three, ends.four);
+    let section5 = between(body, ends.four, ends.five);
+    let section7 = between(body, ends.five, body.len());
+    let slot = head.slot as usize;
+    filing::file_by_value(
+        shelf,
+        slot,
+        issue,
+        section1,
+        section3,
+        section4,
+        section5,
+        section7,
+    )
+}
+
+// How many records were kept (the slot changed), passed (it did not) and refused.
+pub struct Counts {
+    pub kept: usize,
+    pub passed: usize,
+    pub refused: usize,
+}
+
+// The shelf after some records, and what became of them.
+pub struct Progress {
+    pub shelf: Shelf,
+    pub counts: Counts,
+}
+
+pub enum QueueAnswer {
+    Filed(Counts),
+    Refused(Refusal),
+}
+
+pub struct QueueFiled {
+    pub shelf: Shelf,
+    pub answer: QueueAnswer,
+}
+
+// Files a queue to the shelf, which is handed back: as it was where the whole queue is refused, with 2 or 19, and otherwise with each
+// record filed after the one before it. A refused record doesn't stop the next.
+pub fn file(shelf: Shelf, queue: &[u8]) -> QueueFiled
+    ensures { λ r. ⌜ r ≡ queueFiled shelf (now (queue .entry)) ⌝ }
+{
+    let number = refusal_of(queue);
+    if number != 0 {
+        return QueueFiled {
+            shelf,
+            answer: QueueAnswer::Refused(Refusal {
+                number,
+                section: 0,
+                place: 0,
+            }),
+        };
+    }
+    let done = file_records(shelf, queue);
+    let after = done.shelf;
+    let counts = done.counts;
+    QueueFiled {
+        shelf: after,
+        answer: QueueAnswer::Filed(counts),
+    }
+}
+
+// The number with which a whole queue is refused, before anything of it is filed, and 0 if it is not.
+pub fn refusal_of(queue: &[u8]) -> u8
+    ensures { λ r. ⌜ r ≡ queueRefusal (now (queue .entry)) ⌝ }
+{
+    if 65536 < queue.len() {
+        return 2;
+    }
+    if well_cut(queue) { 0 } else { 19 }
+}
+
+// One record more: it counts once, as it is answered.
+fn file_next(progress: Progress, octets: &[u8], head: Head) -> Progress
+    requires { ⌜ total (progress .counts) < 2 ^ 63 ⌝ }
+    ensures { λ r. ⌜ r ≡ oneMore (progress .counts) (recordFiled (progress .shelf) (recordIn (now (octets .entry)) head)) ⌝ }
+{
+    let filed = file_record(progress.shelf, octets, head);
+    let shelf = filed.shelf;
+    let answer = filed.answer;
+    let mut counts = progress.counts;
+    match answer {
+        Answer::Kept => counts.kept += 1,
+        Answer::Passed => counts.passed += 1,
+        Answer::Refused(_) => counts.refused += 1,
+    }
+    Progress { shelf, counts }
+}
+
+// Whether the queue is whole records to its end.
+fn well_cut(queue: &[u8]) -> bool
+    ensures { λ r. ⌜ r ≡ cutOf (now (queue .entry)) .whole ⌝ }
+{
+    let mut at: usize = 0;
+    while at < queue.len() {
+        let Record::Whole(head) = record_of(&queue[at..]) else {
+            return false;
+        };
+        at += head.end;
+    }
+    true
+}
+
+// Files the records of a queue one after the other, up to its end or to where no record stands.
+fn file_records(shelf: Shelf, queue: &[u8]) -> Progress
+    ensures { λ r. ⌜ r ≡ recordsFiled (fromStart shelf) (cutOf (now (queue .entry)) .records) ⌝ }
+{
+    let mut progress = Progress {
+        shelf,
+        counts: Counts {
+            kept: 0,
+            passed: 0,
+            refused: 0,
+        },
+    };
+    let mut at: usize = 0;
+    while at < queue.len() {
+        let rest = &queue[at..];
+        let Record::Whole(head) = record_of(rest) else {
+            return progress;
+        };
+        progress = file_next(progress, rest, head);
+        at += head.end;
+    }
+    progress
 }

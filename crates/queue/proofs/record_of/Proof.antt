@@ -2,10 +2,9 @@
 -- Assumes nothing.
 use mathlib.Core.Path.{_≡_, sym, ap, _∙_}
 use mathlib.Core.List.{List}
-use Prim.Native.Nat.{ℕ, _+_, _-_, _≤_}
+use Prim.Native.Nat.{ℕ, _+_, _≤_}
 use native.Mathlib.Omega.{arith}
-use lib.ListN.{length, take, drop, length-drop}
-use lib.Seq.{take-all}
+use lib.ListN.{length, drop, length-drop}
 use denote.Ref.{now}
 use borrow.Author.Needs.{needs}
 use borrow.Author.Tests.{lt-ltb, le-ltb}
@@ -13,12 +12,12 @@ use Rattle.queue.specs.Numbers.{numberOf}
 use Rattle.queue.specs.Records.{recordOf}
 use Rattle.queue.specs.declared.Number.the-variants.{Found}
 use Rattle.queue.proofs.Taken.{taken}
+use Rattle.queue.proofs.Walks.{restAt, rest-is}
 use Rattle.queue.proofs.record_of.Statement.{statement}
 use Rattle.queue.proofs.record_of.Tie as tie
 
--- a part that goes to the end is all that follows
-behind-is : (s : List ℕ) (a : ℕ) → numberOf (take (length s - a) (drop a s)) ≡ numberOf (drop a s)
-behind-is s a = ap numberOf (take-all (length s - a) (drop a s) (simp length-drop (omega arith)))
+behind-is : (s : List ℕ) (a : ℕ) → numberOf (restAt s a) ≡ numberOf (drop a s)
+behind-is s a = ap numberOf (rest-is s a)
 
 -- ---- the three numbers, once each is known
 
@@ -132,11 +131,20 @@ returns-4 c =
     let d = c .before in
     simp (first (d .before .before .before .before .before .before .before .before .before .before), second (d .before .before .before .before .before), third d, lt-ltb _ _ (c .if1 .taken))
 
+issue-from-requires : tie.Need-issue-from-requires
+issue-from-requires c κs = taken _ _ _ (second (c .before .before .before .before .before .before)) .small
+
 returns-5 : tie.Need-returns-5
 unfolding recordOf
 returns-5 c =
-    let d = c .before in
-    simp (first (d .before .before .before .before .before .before .before .before .before .before), second (d .before .before .before .before .before), third d, le-ltb _ _ (c .if1 .left))
+    let d = c .before .before in
+    simp (
+      first (d .before .before .before .before .before .before .before .before .before .before),
+      second (d .before .before .before .before .before),
+      third d,
+      le-ltb _ _ (c .before .if1 .left),
+      c .issue-from .ensures,
+    )
 
 pub record-of-spec : {M : Type 1} → statement M
 record-of-spec =
@@ -165,4 +173,5 @@ record-of-spec =
     add-start-2
     add-end
     returns-4
+    issue-from-requires
     returns-5)

@@ -1,0 +1,49 @@
+-- `file_next`: the record is filed, and one of the three counts is one more.
+-- Assumes nothing.
+use borrow.Author.Needs.{needs}
+use native.Mathlib.Omega.{arith}
+use Rattle.octets.proofs.Free.{free}
+use Rattle.queue.proofs.file_next.Statement.{statement}
+use Rattle.queue.proofs.file_next.Tie as tie
+
+enum-told : tie.Need-enum-told
+enum-told c = search needs
+
+add-counts : tie.Need-add-counts
+add-counts c = search needs
+
+enum-told-2 : tie.Need-enum-told-2
+enum-told-2 c = search needs
+
+add-counts-2 : tie.Need-add-counts-2
+add-counts-2 c = search needs
+
+enum-told-3 : tie.Need-enum-told-3
+enum-told-3 c = search needs
+
+add-counts-3 : tie.Need-add-counts-3
+add-counts-3 c = search needs
+
+returns : tie.Need-returns
+returns c = simp (← c .before .before .before .before .before .file-record .ensures, c .before .enum-told .given .1)
+
+returns-2 : tie.Need-returns-2
+returns-2 c = simp (← c .before .before .before .before .before .file-record .ensures, c .before .enum-told2 .given .1)
+
+returns-3 : tie.Need-returns-3
+returns-3 c = simp (← c .before .before .before .before .before .file-record .ensures, c .before .enum-told3 .given .1)
+
+pub file-next-spec : {M : Type 1} → statement M
+file-next-spec =
+    tie.close
+    (tie.spec
+    free
+    enum-told
+    add-counts
+    enum-told-2
+    add-counts-2
+    enum-told-3
+    add-counts-3
+    returns
+    returns-2
+    returns-3)

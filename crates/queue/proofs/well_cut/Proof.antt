@@ -1,0 +1,92 @@
+-- `well_cut`: from record to record, up to the end or to where no record stands.
+-- Assumes nothing.
+use Prim.Native.Nat.{ℕ, _-_, _≤_}
+use native.Mathlib.Omega.{arith}
+use mathlib.Core.Path.{_≡_, refl, ap, sym, _∙_}
+use mathlib.Core.List.{List}
+use lib.ListN.{length, drop}
+use denote.Ref.{now}
+use borrow.Author.Needs.{needs}
+use Rattle.octets.proofs.Free.{free}
+use Rattle.queue.specs.Queues.{Cut, cutOf}
+use Rattle.queue.proofs.Walks.{Onward, walk-on, walk-broken, walk-end}
+use Rattle.queue.proofs.well_cut.Statement.{statement}
+use Rattle.queue.proofs.well_cut.Tie as tie
+
+record Inv (queue : List ℕ) (at : ℕ) : Type 0 where
+  inside : at ≤ length queue
+  so-far : cutOf (drop at queue) .whole ≡ cutOf queue .whole
+
+abbrev Inv-loop : tie.InvT-loop
+Inv-loop queue at₀ at = Inv queue at
+
+abbrev μ-loop : tie.MeasureT-loop
+μ-loop queue at₀ at = length queue - at
+
+loop-holds : tie.Need-loop-holds Inv-loop μ-loop
+loop-holds c = record { inside = omega arith; so-far = refl }
+
+sub-record-of : tie.Need-sub-record-of Inv-loop μ-loop
+sub-record-of c = search needs
+
+part-record-of-start : tie.Need-part-record-of-start Inv-loop μ-loop
+part-record-of-start c = search needs
+
+part-record-of-end : tie.Need-part-record-of-end Inv-loop μ-loop
+part-record-of-end c = search needs
+
+enum-known-head : tie.Need-enum-known-head Inv-loop μ-loop
+enum-known-head c = search needs
+
+enum-told : tie.Need-enum-told Inv-loop μ-loop
+enum-told c = search needs
+
+returns : tie.Need-returns Inv-loop μ-loop
+returns c =
+    let r = c .before .before in
+    let l = r .before .before .before in
+    let broken = walk-broken (now (l .before .before .args .queue)) (l .loop .at) (r .before .before .loop-test .taken) (sym (r .record-of .ensures) ∙ c .enum-told .given .1) in
+    sym (ap (λ (x : Cut). x .whole) broken) ∙ l .loop .inv .so-far
+
+on : (c : tie.After-struct-known Inv-loop μ-loop) → Onward (now (c .before .before .before .before .before .before .before .before .before .args .queue)) (c .before .before .before .before .before .before .before .loop .at) (c .before .before .head .given .0 .0)
+on c =
+    let r = c .before .before .before .before in
+    let l = r .before .before .before in
+    walk-on (now (l .before .before .args .queue)) (l .loop .at) _ (l .loop .inv .inside) (sym (r .record-of .ensures) ∙ c .before .before .head .given .1)
+
+add-at : tie.Need-add-at Inv-loop μ-loop
+add-at c = omega (arith, on c .inside, c .before .before .before .before .before .before .before .before .before .good)
+
+loop-less : tie.Need-loop-less Inv-loop μ-loop
+loop-less c = omega (arith, on c .more, on c .inside)
+
+loop-again : tie.Need-loop-again Inv-loop μ-loop
+loop-again c =
+    record {
+      inside = on c .inside;
+      so-far = sym (ap (λ (x : Cut). x .whole) (on c .cut)) ∙ c .before .before .before .before .before .before .before .loop .inv .so-far;
+    }
+
+returns-2 : tie.Need-returns-2 Inv-loop μ-loop
+returns-2 c =
+    let l = c .before in
+    sym (ap (λ (x : Cut). x .whole) (walk-end (now (l .before .before .args .queue)) (l .loop .at) (c .loop-test .left))) ∙ l .loop .inv .so-far
+
+pub well-cut-spec : {M : Type 1} → statement M
+well-cut-spec =
+    tie.close
+    (tie.spec
+    Inv-loop
+    μ-loop
+    loop-holds
+    sub-record-of
+    part-record-of-start
+    part-record-of-end
+    free
+    enum-known-head
+    enum-told
+    returns
+    add-at
+    loop-less
+    loop-again
+    returns-2)
