@@ -14,7 +14,7 @@ use Rattle.filing.specs.declared.Answer.{Answer}
 use Rattle.filing.specs.declared.Answer.the-variants.{Kept, Passed, Refused}
 
 -- what an answer says of the shelf before and after, for the slot asked for
-abbrev Said : Shelf → ℕ → Shelf → Answer → Type 0
+abbrev pub Said : Shelf → ℕ → Shelf → Answer → Type 0
 Said before slot after Kept = slotAt after slot ≢ slotAt before slot
 Said before slot after Passed = after ≡ before
 Said before slot after (Refused x) = after ≡ before

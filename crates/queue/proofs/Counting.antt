@@ -1,14 +1,61 @@
--- Each record counts once.
+-- Kept, passed and refused: each record counts once, so that the three sum to the records, and it counts as its slot was before and after.
 -- Assumes nothing.
-use Prim.Native.Nat.{ℕ, _+_}
+use Prim.Native.Nat.{ℕ, suc, _+_}
 use native.Mathlib.Omega.{arith}
-use mathlib.Core.Path.{_≡_}
+use mathlib.Core.Path.{_≡_, refl, ap, _∙_}
+use mathlib.Core.List.{List, [], _∷_}
+use lib.ListN.{length, length-set}
+use Rattle.shelf.specs.declared.Shelf.{Shelf}
+use Rattle.filing.specs.Filing.{Filing, refusedFiling, accepted, filedBy}
 use Rattle.filing.specs.declared.Answer.{Answer}
 use Rattle.filing.specs.declared.Answer.the-variants.{Kept, Passed, Refused}
-use Rattle.queue.specs.Queues.{counted, total}
+use Rattle.filing.proofs.SaidOfTheSlots.{Said, said}
+use Rattle.queue.specs.Queues.{Sent, recordFiling, recordFiled, counted, total, oneMore, recordsFiled}
 use Rattle.queue.specs.declared.Counts.{Counts}
+use Rattle.queue.specs.declared.Progress.{Progress}
 
 pub one-more : (n : Counts) (a : Answer) → total (counted n a) ≡ total n + 1
 one-more n Kept = omega arith
 one-more n Passed = omega arith
 one-more n (Refused x) = omega arith
+
+pub sum : (rs : List Sent) (p : Progress) → total (recordsFiled p rs .counts) ≡ total (p .counts) + length rs
+unfolding recordsFiled
+sum [] p = omega arith
+sum (r ∷ rs) p =
+    let x = recordFiled (p .shelf) r in
+    let rest = sum rs (oneMore (p .counts) x) in
+    let one = one-more (p .counts) (x .answer) in
+    omega (arith, rest, one)
+
+-- ---- what each record is answered, and what that says of its slot
+
+-- the answers, in the queue's order
+pub answersOf : Shelf → List Sent → List Answer
+answersOf s [] = []
+answersOf s (r ∷ rs) = recordFiled s r .answer ∷ answersOf (recordFiled s r .shelf) rs
+
+-- counted one after the other
+pub countedAll : Counts → List Answer → Counts
+countedAll n [] = n
+countedAll n (a ∷ rest) = countedAll (counted n a) rest
+
+pub counts-are : (rs : List Sent) (p : Progress) → recordsFiled p rs .counts ≡ countedAll (p .counts) (answersOf (p .shelf) rs)
+unfolding recordsFiled answersOf countedAll
+counts-are [] p = refl
+counts-are (r ∷ rs) p = counts-are rs (oneMore (p .counts) (recordFiled (p .shelf) r))
+
+-- of each record, with the shelf before and after it: kept is that its slot changed, passed that it did not, and a refused record leaves the shelf
+pub AllSaid : Shelf → List Sent → Type 0
+AllSaid s [] = Unit {0}
+AllSaid s (r ∷ rs) = Said s (r .slot) (recordFiled s r .shelf) (recordFiled s r .answer) × AllSaid (recordFiled s r .shelf) rs
+
+stays-long : (s : Shelf) (slot : ℕ) (f : Filing) → length (s .slots) ≡ 64 → length (filedBy s slot f .shelf .slots) ≡ 64
+unfolding filedBy
+stays-long s slot (refusedFiling number section place) long = long
+stays-long s slot (accepted card) long = length-set (s .slots) slot _ ∙ long
+
+pub all-said : (rs : List Sent) (s : Shelf) → length (s .slots) ≡ 64 → AllSaid s rs
+unfolding AllSaid recordFiled
+all-said [] s long = tt
+all-said (r ∷ rs) s long = (said s (r .slot) (recordFiling r) long, all-said rs (recordFiled s r .shelf) (stays-long s (r .slot) (recordFiling r) long))

@@ -4,3 +4,6 @@ pub mod Taken
 pub mod Cuts
 pub mod Walks
 pub mod Counting
+pub mod Histories
+pub mod QueueIsJoin
+pub mod Concatenation

@@ -2,3 +2,4 @@ pub mod Numbers
 pub mod Records
 pub mod Bodies
 pub mod Queues
+pub mod History

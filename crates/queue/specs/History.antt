@@ -1,4 +1,4 @@
--- How a shelf came about by fields filed and shelves joined in, and the cards that were ever accepted for its slots.
+-- How a shelf came about by fields and queues filed and shelves joined in, and the cards that were ever accepted for its slots.
 -- Assumes nothing.
 use Prim.Native.Nat.{ℕ}
 use mathlib.Core.List.{List, [], _∷_, _++_}
@@ -7,11 +7,12 @@ use lib.Dec.{eqb}
 use Rattle.card.specs.declared.Card.{Card}
 use Rattle.shelf.specs.Shelves.{emptyShelf, joinShelf}
 use Rattle.shelf.specs.declared.Shelf.{Shelf}
 use Rattle.filing.specs.Filing.{Filing, refusedFiling, accepted, filingOf, filedOf}
 use Rattle.filing.specs.declared.Issue.{Issue}
+use Rattle.queue.specs.Queues.{Sent, recordFiling, cutOf, queueRefusal, queueFiled}
 
--- what is filed: an issue and five sections
-pub record Sent : Type 0 where
+-- a field that is filed: an issue and five sections
+pub record Field : Type 0 where
   pub issue : Issue
   pub s1 : List ℕ
   pub s3 : List ℕ
@@ -19,16 +20,19 @@ pub record Sent : Type 0 where
   pub s5 : List ℕ
   pub s7 : List ℕ
 
--- a shelf starts empty, a field is filed to a slot, accepted or refused, or another shelf, with a history of its own, is joined in
+-- a shelf starts empty, a field is filed to a slot, or a queue, accepted or refused, or another shelf, with a history of its own, is
+-- joined in
 pub data History : Type 0 where
   start : History
-  file : ℕ → Sent → History → History
+  file : ℕ → Field → History → History
+  queue : List ℕ → History → History
   join : History → History → History
 
 -- the shelf at the end of a history
 unfoldable pub shelfOf : History → Shelf
 shelfOf start = emptyShelf
 shelfOf (file slot x h) = filedOf (shelfOf h) slot (x .issue) (x .s1) (x .s3) (x .s4) (x .s5) (x .s7) .shelf
+shelfOf (queue q h) = queueFiled (shelfOf h) q .shelf
 shelfOf (join g h) = joinShelf (shelfOf g) (shelfOf h)
 
 -- the card that is accepted for a slot, if one is
@@ -36,9 +40,18 @@ unfoldable pub acceptedOf : ℕ → ℕ → Filing → List Card
 acceptedOf n slot (refusedFiling number section place) = []
 acceptedOf n slot (accepted card) = cond (eqb slot n) (card ∷ []) []
 
+-- those of the records of a queue; a queue that is refused as a whole has no records
+unfoldable pub acceptedIn : ℕ → List Sent → List Card
+acceptedIn n [] = []
+acceptedIn n (r ∷ rs) = acceptedOf n (r .slot) (recordFiling r) ++ acceptedIn n rs
+
+abbrev pub recordsOf : List ℕ → List Sent
+recordsOf q = cond (eqb (queueRefusal q) 0) (cutOf q .records) []
+
 -- each card that was ever accepted for a slot, here or in a shelf joined in, directly or through others
 unfoldable pub acceptedAt : ℕ → History → List Card
 acceptedAt n start = []
 acceptedAt n (file slot x h) =
     acceptedAt n h ++ acceptedOf n slot (filingOf slot (x .issue) (x .s1) (x .s3) (x .s4) (x .s5) (x .s7))
+acceptedAt n (queue q h) = acceptedAt n h ++ acceptedIn n (recordsOf q)
 acceptedAt n (join g h) = acceptedAt n g ++ acceptedAt n h
