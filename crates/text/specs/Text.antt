@@ -1,0 +1,41 @@
+-- Text written into a lent buffer, as far as there is room, and numbers as decimal digits.
+-- Assumes nothing.
+use Prim.Native.Nat.{ℕ, zero, suc, _+_, _/_, _%_}
+use mathlib.Core.Bool.{cond}
+use mathlib.Core.List.{List, [], _∷_, _++_}
+use lib.Dec.{ltb}
+use lib.IntN.{ℤ, pos, negsuc}
+use lib.ListN.{length, set}
+
+-- a lent buffer, and after how many of its octets the text stands that is written so far
+pub record Written : Type 0 where
+  pub octets : List ℕ
+  pub at : ℕ
+
+abbrev pub written : List ℕ → ℕ → Written
+written octets at = record { octets = octets; at = at }
+
+-- one octet more, if there is room
+unfoldable pub one : Written → ℕ → Written
+one x c = cond (ltb (x .at) (length (x .octets))) (written (set (x .octets) (x .at) c) (x .at + 1)) x
+
+-- octet after octet, each if there is room
+unfoldable pub append : Written → List ℕ → Written
+append x [] = x
+append x (c ∷ t) = append (one x c) t
+
+-- ---- numbers
+
+-- the digits of a number, the most significant first, at most so many
+unfoldable pub digitsIn : ℕ → ℕ → List ℕ
+digitsIn zero n = []
+digitsIn (suc most) n = cond (ltb n 10) ((48 + n) ∷ []) (digitsIn most (n / 10) ++ ((48 + n % 10) ∷ []))
+
+-- a number below 10 ^ 20 has at most 20 digits, and a machine's number of 64 bits is one
+abbrev pub decimal : ℕ → List ℕ
+decimal n = digitsIn 20 n
+
+-- a minus sign before the digits of a negative one
+abbrev pub wholeNumber : ℤ → List ℕ
+wholeNumber (pos n) = decimal n
+wholeNumber (negsuc n) = 45 ∷ decimal (suc n)
