@@ -1,12 +1,61 @@
 -- Laws of text in a lent buffer.
 -- Assumes nothing.
-use mathlib.Core.Path.{_≡_, refl}
+use mathlib.Core.Path.{_≡_, refl, ap, ap₂, sym, _∙_}
+use mathlib.Core.Bool.{Bool, true, false, cond}
 use mathlib.Core.List.{List, [], _∷_, _++_}
-use Prim.Native.Nat.{ℕ}
-use Rattle.text.specs.Text.{Written, one, append}
+use Prim.Native.Nat.{ℕ, _+_, _≤_}
+use native.Mathlib.Omega.{arith}
+use native.Mathlib.Numerals.{add-one}
+use lib.Dec.{ltb}
+use lib.ListN.{length, take, drop, set, length-set}
+use lib.Seq.{sets, sets-eq}
+use borrow.Author.Tests.{lt-ltb, ltb-true}
+use Rattle.text.specs.Text.{Written, written, one, append}
 
 -- two texts, one after the other
 pub append-both : (x : Written) (t u : List ℕ) → append x (t ++ u) ≡ append (append x t) u
 unfolding append
 append-both x [] u = refl
 append-both x (c ∷ t) u = append-both (one x c) t u
+
+-- what a call wrote, and then what the next one wrote
+pub and-then : (x : Written) {y z : Written} (t u : List ℕ) → y ≡ append x t → z ≡ append y u → z ≡ append x (t ++ u)
+and-then x t u e f = f ∙ ap (λ (w : Written). append w u) e ∙ sym (append-both x t u)
+
+-- ---- the room
+
+-- the buffer stays as long as it is
+pub same-room : (x : Written) (t : List ℕ) → length (append x t .octets) ≡ length (x .octets)
+unfolding append one
+same-room x [] = refl
+same-room x (c ∷ t) = same-room (one x c) t ∙ by-room (ltb (x .at) (length (x .octets)))
+  where
+    by-room : (b : Bool) → length (cond b (written (set (x .octets) (x .at) c) (x .at + 1)) x .octets) ≡ length (x .octets)
+    by-room true = length-set (x .octets) (x .at) c
+    by-room false = refl
+
+-- the text ends within it
+pub ends-within : (x : Written) (t : List ℕ) → x .at ≤ length (x .octets) → append x t .at ≤ length (append x t .octets)
+unfolding append one
+ends-within x [] h = h
+ends-within x (c ∷ t) h = ends-within (one x c) t (by-room (ltb (x .at) (length (x .octets))) refl)
+  where
+    by-room : (b : Bool) → ltb (x .at) (length (x .octets)) ≡ b
+        → cond b (written (set (x .octets) (x .at) c) (x .at + 1)) x .at ≤ length (cond b (written (set (x .octets) (x .at) c) (x .at + 1)) x .octets)
+    by-room true e = simp length-set (omega (arith, ltb-true (x .at) (length (x .octets)) e))
+    by-room false e = h
+
+one-by-one : (x : Written) (t : List ℕ) → x .at + length t ≤ length (x .octets) → append x t ≡ written (sets (x .octets) (x .at) t) (x .at + length t)
+unfolding append one
+one-by-one x [] h = ap (written (x .octets)) (omega arith)
+one-by-one x (c ∷ t) h =
+    let y = written (set (x .octets) (x .at) c) (x .at + 1) in
+    let next : one x c ≡ y = simp (lt-ltb (x .at) (length (x .octets)) (omega arith)) in
+    ap (λ (w : Written). append w t) next
+    ∙ one-by-one y t (simp length-set (omega arith))
+    ∙ ap₂ (λ (i n : ℕ). written (sets (y .octets) i t) n) (add-one (x .at)) (omega arith)
+
+-- a text that fits stands there whole, and all around it is as it was
+pub append-fits : (x : Written) (t : List ℕ) → x .at + length t ≤ length (x .octets)
+    → append x t ≡ written (take (x .at) (x .octets) ++ t ++ drop (x .at + length t) (x .octets)) (x .at + length t)
+append-fits x t h = one-by-one x t h ∙ ap (λ (l : List ℕ). written l (x .at + length t)) (sets-eq t (x .octets) (x .at) h)

@@ -1,3 +1,4 @@
+pub mod Decimal
 pub mod Digits
 pub mod Laws
 pub mod Sizes
