@@ -1,10 +1,12 @@
 use borrow.Author.Needs.{needs}
-use Rattle.text.proofs.Laws.{append-both}
+use Rattle.text.proofs.Laws.{and-then}
 use Rattle.text.proofs.number_then.Statement.{statement}
 use Rattle.text.proofs.number_then.Tie as tie
 
 returns : tie.Need-returns
-returns c = rw append-both (cc)
+returns c =
+    let d = c .before .before in
+    and-then _ _ _ (d .before .before .before .before .number .ensures) (d .octet .ensures)
 
 pub number-then-spec : {M : Type 1} → statement M
 number-then-spec =

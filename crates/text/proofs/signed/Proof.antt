@@ -1,5 +1,5 @@
 use borrow.Author.Needs.{needs}
-use Rattle.text.specs.Text.{append}
+use Rattle.text.proofs.Laws.{and-then}
 use Rattle.text.proofs.Sizes.{wide-kept, wide-fits, negated-fits, negated-kept, size-of-negative, size-of-other, text-of-negative, text-of-other}
 use Rattle.text.proofs.signed.Statement.{statement}
 use Rattle.text.proofs.signed.Tie as tie
@@ -21,12 +21,14 @@ cast-number c =
     (size-of-negative (a .args .z) (a .fits .z .sfits) (rw e at (b .if1 .taken)))
 
 returns : tie.Need-returns
-unfolding append
 returns c =
-    let b = c .before .before .before .before .before .before .before .before in
+    let d = c .before .before in
+    let b = d .before .before .before .before .before .before in
     let a = b .before .before in
     let e = wide-kept (a .args .z) (a .fits .z .sfits) in
-    cc (text-of-negative (a .args .z) (rw e at (b .if1 .taken)), e, negated-kept (a .args .z) (a .fits .z .sfits))
+    rw (text-of-negative (a .args .z) (rw e at (b .if1 .taken)))
+    (and-then _ _ _ (d .before .before .before .before .octet .ensures)
+    (rw (e, negated-kept (a .args .z) (a .fits .z .sfits)) at (d .number .ensures)))
 
 cast-number-2 : tie.Need-cast-number-2
 cast-number-2 c =
@@ -36,10 +38,11 @@ cast-number-2 c =
 
 returns-2 : tie.Need-returns-2
 returns-2 c =
-    let b = c .before .before .before .before in
+    let d = c .before .before in
+    let b = d .before .before in
     let a = b .before .before in
     let e = wide-kept (a .args .z) (a .fits .z .sfits) in
-    cc (text-of-other (a .args .z) (rw e at (b .if1 .left)), e)
+    rw (text-of-other (a .args .z) (rw e at (b .if1 .left))) (rw e at (d .number2 .ensures))
 
 pub signed-spec : {M : Type 1} → statement M
 signed-spec =
