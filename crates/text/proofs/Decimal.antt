@@ -8,7 +8,7 @@ use native.Mathlib.Nat.{pow-suc}
 use native.Mathlib.Omega.{arith}
 use lib.Dec.{ltb}
 use lib.IntN.{ℤ, pos, negsuc}
-use lib.ListN.{length, length-append}
+use lib.ListN.{length, getD, length-append}
 use lib.Signed.{mag}
 use borrow.Author.Tests.{lt-ltb}
 use Rattle.text.specs.Text.{digitsIn, decimal, wholeNumber}
@@ -59,3 +59,26 @@ value-of-digits (suc most) n h = by-ten (ltb n 10) (value-of-digits most (n / 10
 -- no two numbers below 10 ^ 20 have the same text
 pub decimal-once : (m n : ℕ) → m < 10 ^ 20 → n < 10 ^ 20 → decimal m ≡ decimal n → m ≡ n
 decimal-once m n hm hn e = sym (value-of-digits 20 m hm) ∙ ap (value 0) e ∙ value-of-digits 20 n hn
+
+-- a digit is no minus sign
+first-digit : (most n : ℕ) → 48 ≤ getD (digitsIn most n) 0 48
+unfolding digitsIn
+first-digit zero n = omega arith
+first-digit (suc most) n = by-ten (ltb n 10) (digitsIn most (n / 10)) (first-digit most (n / 10))
+  where
+    by-ten : (b : Bool) (t : List ℕ) → 48 ≤ getD t 0 48 → 48 ≤ getD (cond b ((48 + n) ∷ []) (t ++ ((48 + n % 10) ∷ []))) 0 48
+    by-ten true t h = omega arith
+    by-ten false [] h = omega arith
+    by-ten false (c ∷ t) h = h
+
+unsigned : (n : ℕ) (t : List ℕ) → decimal n ≡ 45 ∷ t → ⊥
+unsigned n t e = omega (arith, first-digit 20 n, ap (λ (l : List ℕ). getD l 0 48) e)
+
+-- no two signed numbers of 32 bits have the same text
+pub whole-number-once : (y z : ℤ) → mag y < 2 ^ 31 → mag z < 2 ^ 31 → wholeNumber y ≡ wholeNumber z → y ≡ z
+whole-number-once (pos m) (pos n) hm hn e = ap pos (decimal-once m n (omega arith) (omega arith) e)
+whole-number-once (pos m) (negsuc n) hm hn e = absurd (unsigned m (decimal (suc n)) e)
+whole-number-once (negsuc m) (pos n) hm hn e = absurd (unsigned n (decimal (suc m)) (sym e))
+whole-number-once (negsuc m) (negsuc n) hm hn e =
+    let same : decimal (suc m) ≡ decimal (suc n) = cc in
+    let one : m ≡ n = omega (arith, decimal-once (suc m) (suc n) (omega arith) (omega arith) same) in ap negsuc one

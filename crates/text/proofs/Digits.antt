@@ -1,7 +1,6 @@
 -- The digits that `io::decimal` writes are the number's.
 -- Assumes nothing.
 use mathlib.Core.Path.{_≡_}
-use mathlib.Core.List.{List}
 use Prim.Native.Nat.{ℕ, zero, suc, _*_, _-_, _/_, _%_, _^_, _≤_, _<_}
 use native.Mathlib.Nat.{le-of-suc-le-suc, lt-of-not-le, pow-suc, one-le-pow, pow-le-pow-right}
 use native.Mathlib.Numerals.{unary-clauses}

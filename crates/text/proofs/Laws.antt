@@ -3,13 +3,13 @@
 use mathlib.Core.Path.{_≡_, refl, ap, ap₂, sym, _∙_}
 use mathlib.Core.Bool.{Bool, true, false, cond}
 use mathlib.Core.List.{List, [], _∷_, _++_}
-use Prim.Native.Nat.{ℕ, _+_, _≤_}
+use Prim.Native.Nat.{ℕ, suc, _+_, _-_, _≤_}
 use native.Mathlib.Omega.{arith}
 use native.Mathlib.Numerals.{add-one}
 use lib.Dec.{ltb}
 use lib.ListN.{length, take, drop, set, length-set}
-use lib.Seq.{sets, sets-eq}
-use borrow.Author.Tests.{lt-ltb, ltb-true}
+use lib.Seq.{sets, sets-eq, take-nil}
+use borrow.Author.Tests.{lt-ltb, le-ltb, ltb-true, ltb-false}
 use Rattle.text.specs.Text.{Written, written, one, append}
 
 -- two texts, one after the other
@@ -62,3 +62,30 @@ one-by-one x (c ∷ t) h =
 pub append-fits : (x : Written) (t : List ℕ) → x .at + length t ≤ length (x .octets)
     → append x t ≡ written (take (x .at) (x .octets) ++ t ++ drop (x .at + length t) (x .octets)) (x .at + length t)
 append-fits x t h = one-by-one x t h ∙ ap (λ (l : List ℕ). written l (x .at + length t)) (sets-eq t (x .octets) (x .at) h)
+
+-- where there is no room nothing is written
+pub append-full : (x : Written) (t : List ℕ) → length (x .octets) ≤ x .at → append x t ≡ x
+unfolding append one
+append-full x [] h = refl
+append-full x (c ∷ t) h =
+    let same : one x c ≡ x = simp (le-ltb (x .at) (length (x .octets)) h) in
+    ap (λ (w : Written). append w t) same ∙ append-full x t h
+
+-- of a text that does not fit the first octets are written, as many as there is room for
+pub append-cut : (x : Written) (t : List ℕ) → append x t ≡ append x (take (length (x .octets) - x .at) t)
+unfolding append one
+append-cut x [] = rw take-nil
+append-cut x (c ∷ t) = by-room (ltb (x .at) (length (x .octets))) refl (append-cut (written (set (x .octets) (x .at) c) (x .at + 1)) t)
+  where
+    y : Written
+    y = written (set (x .octets) (x .at) c) (x .at + 1)
+
+    by-room : (b : Bool) → ltb (x .at) (length (x .octets)) ≡ b → append y t ≡ append y (take (length (y .octets) - y .at) t)
+        → append x (c ∷ t) ≡ append x (take (length (x .octets) - x .at) (c ∷ t))
+    by-room true e rest =
+        let next : one x c ≡ y = simp e in
+        let room : length (x .octets) - x .at ≡ suc (length (y .octets) - y .at) = simp length-set (omega (arith, ltb-true (x .at) (length (x .octets)) e)) in
+        rw room (ap (λ (w : Written). append w t) next ∙ rest ∙ sym (ap (λ (w : Written). append w (take (length (y .octets) - y .at) t)) next))
+    by-room false e rest =
+        let none : length (x .octets) - x .at ≡ 0 = omega (arith, ltb-false (x .at) (length (x .octets)) e) in
+        rw none (append-full x (c ∷ t) (ltb-false (x .at) (length (x .octets)) e))
