@@ -2,6 +2,8 @@
 -- Assumes nothing.
 use Prim.Native.Nat.{ℕ, zero, suc, _+_, _/_, _%_}
 use mathlib.Core.Bool.{cond}
+use Prim.Native.Char.{code}
+use Prim.Native.String.{String, [] as ε, _∷_ as _⊲_}
 use mathlib.Core.List.{List, [], _∷_, _++_}
 use lib.Dec.{ltb}
 use lib.IntN.{ℤ, pos, negsuc}
@@ -23,6 +25,11 @@ one x c = cond (ltb (x .at) (length (x .octets))) (written (set (x .octets) (x .
 unfoldable pub append : Written → List ℕ → Written
 append x [] = x
 append x (c ∷ t) = append (one x c) t
+
+-- the octets of words in ASCII
+abbrev pub ascii : String → List ℕ
+ascii ε = []
+ascii (c ⊲ s) = code c ∷ ascii s
 
 -- ---- numbers
 

@@ -1,0 +1,106 @@
+-- What the two programs print of a queue, octet by octet: the listing of what is held after filing it to an empty shelf, and the
+-- explanation of what became of each record. Decimal, one space, a minus sign before a negative year; each line ends in a line end.
+-- Assumes nothing.
+use Prim.Native.Nat.{ℕ, zero, suc, _+_}
+use mathlib.Core.List.{List, [], _∷_, _++_}
+use mathlib.Core.Bool.{cond}
+use Rattle.octets.specs.Octets.{beAt}
+use Rattle.layout.specs.declared.Refusal.{Refusal}
+use Rattle.card.specs.declared.Card.{Card}
+use Rattle.shelf.specs.Shelves.{emptyShelf, slotAt}
+use Rattle.shelf.specs.declared.Slot.{Slot}
+use Rattle.shelf.specs.declared.Shelf.{Shelf}
+use Rattle.filing.specs.declared.Issue.{Issue}
+use Rattle.filing.specs.declared.Issue.the-variants.{NotNamed, Named}
+use Rattle.filing.specs.declared.Answer.{Answer}
+use Rattle.filing.specs.declared.Answer.the-variants.{Kept, Passed, Refused}
+use Rattle.queue.specs.Queues.{Sent, recordFiled, cutOf, queueFiled}
+use Rattle.queue.specs.declared.Counts.{Counts}
+use Rattle.queue.specs.declared.QueueAnswer.{QueueAnswer}
+use Rattle.queue.specs.declared.QueueAnswer.the-variants.{Filed as filedAll, Refused as refusedAll}
+use Rattle.text.specs.Text.{ascii, decimal, wholeNumber}
+
+-- a number with a space behind it, and one with a line end
+abbrev pub spaced : ℕ → List ℕ
+spaced n = decimal n ++ ascii " "
+
+abbrev pub ended : ℕ → List ℕ
+ended n = decimal n ++ ascii "\n"
+
+-- ---- the lines that both have
+
+unfoldable pub countsLine : Counts → List ℕ
+countsLine n =
+    ascii "kept " ++ (decimal (n .kept) ++ (ascii " passed " ++ (decimal (n .passed) ++ (ascii " refused " ++ ended (n .refused)))))
+
+-- a queue refused
+unfoldable pub refusedLine : Refusal → List ℕ
+refusedLine x = ascii "refused " ++ ended (x .number)
+
+-- the refusal of an answer that is one; of none, zeros
+abbrev pub refusalIn : QueueAnswer → Refusal
+refusalIn (filedAll n) = record { number = 0; section = 0; place = 0 }
+refusalIn (refusedAll x) = x
+
+-- ---- the listing
+
+-- the template number: octets 8-9 of section 4, of which a card has 8-34
+abbrev pub templateIn : Card → ℕ
+templateIn c = beAt (c .product) 1 2
+
+unfoldable pub timeText : Card → List ℕ
+timeText c = spaced (c .month) ++ (spaced (c .day) ++ (spaced (c .hour) ++ (spaced (c .minute) ++ spaced (c .second))))
+
+unfoldable pub cardLine : ℕ → Card → List ℕ
+cardLine slot c =
+    spaced slot ++ (wholeNumber (c .year) ++ (ascii " " ++ (timeText c ++ (spaced (c .issue) ++ ended (templateIn c)))))
+
+-- one line for a held slot
+unfoldable pub slotLine : ℕ → Slot → List ℕ
+slotLine slot x = cond (x .held) (cardLine slot (x .card)) []
+
+-- so many slots from one on, rising
+unfoldable pub slotLines : Shelf → ℕ → ℕ → List ℕ
+slotLines s slot zero = []
+slotLines s slot (suc more) = slotLine slot (slotAt s slot) ++ slotLines s (slot + 1) more
+
+unfoldable pub listingOf : Shelf → QueueAnswer → List ℕ
+listingOf shelf (filedAll n) =
+    ascii "slot year month day hour minute second issue template\n" ++ (slotLines shelf 0 64 ++ countsLine n)
+listingOf shelf (refusedAll refusal) = refusedLine refusal
+
+-- ---- the explanation
+
+abbrev pub issueText : Issue → List ℕ
+issueText NotNamed = ascii "-"
+issueText (Named n) = decimal n
+
+abbrev pub refusedFate : Refusal → List ℕ
+refusedFate x = ascii " refused " ++ (spaced (x .number) ++ (spaced (x .section) ++ ended (x .place)))
+
+abbrev pub fate : Answer → List ℕ
+fate Kept = ascii " kept\n"
+fate Passed = ascii " passed\n"
+fate (Refused x) = refusedFate x
+
+-- a record's number, its slot and issue as the queue has them, and what became of it
+unfoldable pub recordLine : ℕ → ℕ → Issue → Answer → List ℕ
+recordLine k slot issue answer = spaced k ++ (spaced slot ++ (issueText issue ++ fate answer))
+
+-- in the queue's order, each filed to the shelf that the one before it left
+unfoldable pub recordLines : ℕ → Shelf → List Sent → List ℕ
+recordLines k s [] = []
+recordLines k s (r ∷ rs) =
+    recordLine k (r .slot) (r .issue) (recordFiled s r .answer) ++ recordLines (k + 1) (recordFiled s r .shelf) rs
+
+unfoldable pub explanationOf : List Sent → QueueAnswer → List ℕ
+explanationOf records (filedAll n) = ascii "record slot issue fate\n" ++ (recordLines 1 emptyShelf records ++ countsLine n)
+explanationOf records (refusedAll refusal) = refusedLine refusal
+
+-- ---- of a queue
+
+unfoldable pub listing : List ℕ → List ℕ
+listing q = listingOf (queueFiled emptyShelf q .shelf) (queueFiled emptyShelf q .answer)
+
+unfoldable pub explanation : List ℕ → List ℕ
+explanation q = explanationOf (cutOf q .records) (queueFiled emptyShelf q .answer)

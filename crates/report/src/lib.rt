@@ -1,0 +1,204 @@
+// What the two programs print of a queue that is filed to an empty shelf: the listing of what is then held, and the explanation of what
+// became of each record. Each function writes into a lent buffer, as far as there is room, and answers the index after what it wrote.
+ghost use mathlib.Core.Path.{_≡_};
+ghost use Rattle.octets.specs.Octets.{beAt};
+ghost use Rattle.queue.specs.Queues.{cutOf};
+ghost use Rattle.shelf.specs.Shelves.{emptyShelf};
+ghost use Rattle.text.specs.Text.{written, append};
+ghost use Rattle.report.specs.Texts.{countsLine, refusedLine, refusalIn, timeText, cardLine, slotLine, slotLines, listingOf, issueText, refusedFate, fate, recordLine, recordLines, explanationOf, listing, explanation};
+use card::Card;
+use filing::Answer;
+use filing::Issue;
+use layout::Refusal;
+use queue::Counts;
+use queue::QueueAnswer;
+use queue::Record;
+use shelf::Shelf;
+use shelf::Slot;
+
+pub fn listing(queue: &[u8], out: &mut [u8]) -> usize
+    ensures { λ r. ⌜ written (now (out .exit)) r ≡ append (written (now (out .entry)) 0) (listing (now (queue .entry))) ⌝ }
+{
+    let filed = queue::file(Shelf::empty(), queue);
+    let shelf = filed.shelf;
+    let answer = filed.answer;
+    list(out, shelf, answer)
+}
+
+fn list(out: &mut [u8], shelf: Shelf, answer: QueueAnswer) -> usize
+    ensures { λ r. ⌜ written (now (out .exit)) r ≡ append (written (now (out .entry)) 0) (listingOf shelf answer) ⌝ }
+{
+    let QueueAnswer::Filed(counts) = answer else {
+        return refused_line(out, refusal_in(answer));
+    };
+    let heading = text::words(
+        out,
+        0,
+        b"slot year month day hour minute second issue template\n",
+    );
+    let slots = slot_lines(out, heading, shelf);
+    counts_line(out, slots, counts)
+}
+
+// The refusal of an answer that is one; of none, zeros.
+fn refusal_in(answer: QueueAnswer) -> Refusal
+    ensures { λ r. ⌜ r ≡ refusalIn answer ⌝ }
+{
+    match answer {
+        QueueAnswer::Filed(_) => Refusal {
+            number: 0,
+            section: 0,
+            place: 0,
+        },
+        QueueAnswer::Refused(x) => x,
+    }
+}
+
+fn slot_lines(out: &mut [u8], at: usize, shelf: Shelf) -> usize
+    ensures { λ r. ⌜ written (now (out .exit)) r ≡ append (written (now (out .entry)) at) (slotLines shelf 0 64) ⌝ }
+{
+    let mut next = at;
+    let mut i: usize = 0;
+    while i < 64 {
+        next = slot_line(out, next, i, shelf::slot_of(shelf, i));
+        i += 1;
+    }
+    next
+}
+
+fn slot_line(out: &mut [u8], at: usize, i: usize, slot: Slot) -> usize
+    ensures { λ r. ⌜ written (now (out .exit)) r ≡ append (written (now (out .entry)) at) (slotLine i slot) ⌝ }
+{
+    if !slot.held {
+        return at;
+    }
+    let card = slot.card;
+    card_line(out, at, i, card)
+}
+
+fn card_line(out: &mut [u8], at: usize, i: usize, card: Card) -> usize
+    ensures { λ r. ⌜ written (now (out .exit)) r ≡ append (written (now (out .entry)) at) (cardLine i card) ⌝ }
+{
+    let product = card.product;
+    let template = template_in(product);
+    let a = text::number_then(out, at, i as u64, b' ');
+    let b = text::signed(out, a, card.year);
+    let c = text::octet(out, b, b' ');
+    let d = time_text(out, c, card);
+    let e = text::number_then(out, d, card.issue as u64, b' ');
+    text::number_then(out, e, template as u64, b'\n')
+}
+
+fn template_in(product: [u8; 27]) -> u16
+    ensures { λ r. ⌜ r ≡ beAt product 1 2 ⌝ }
+{
+    octets::u16_at(&product, 1)
+}
+
+fn time_text(out: &mut [u8], at: usize, card: Card) -> usize
+    ensures { λ r. ⌜ written (now (out .exit)) r ≡ append (written (now (out .entry)) at) (timeText card) ⌝ }
+{
+    let a = text::number_then(out, at, card.month as u64, b' ');
+    let b = text::number_then(out, a, card.day as u64, b' ');
+    let c = text::number_then(out, b, card.hour as u64, b' ');
+    let d = text::number_then(out, c, card.minute as u64, b' ');
+    text::number_then(out, d, card.second as u64, b' ')
+}
+
+fn counts_line(out: &mut [u8], at: usize, counts: Counts) -> usize
+    ensures { λ r. ⌜ written (now (out .exit)) r ≡ append (written (now (out .entry)) at) (countsLine counts) ⌝ }
+{
+    let a = text::words(out, at, b"kept ");
+    let b = text::number(out, a, counts.kept as u64);
+    let c = text::words(out, b, b" passed ");
+    let d = text::number(out, c, counts.passed as u64);
+    let e = text::words(out, d, b" refused ");
+    text::number_then(out, e, counts.refused as u64, b'\n')
+}
+
+fn refused_line(out: &mut [u8], refusal: Refusal) -> usize
+    ensures { λ r. ⌜ written (now (out .exit)) r ≡ append (written (now (out .entry)) 0) (refusedLine refusal) ⌝ }
+{
+    let a = text::words(out, 0, b"refused ");
+    text::number_then(out, a, refusal.number as u64, b'\n')
+}
+
+// The queue is filed once for the counts, and then each record again for its line.
+pub fn explanation(queue: &[u8], out: &mut [u8]) -> usize
+    ensures { λ r. ⌜ written (now (out .exit)) r ≡ append (written (now (out .entry)) 0) (explanation (now (queue .entry))) ⌝ }
+{
+    let filed = queue::file(Shelf::empty(), queue);
+    let answer = filed.answer;
+    explain(out, queue, answer)
+}
+
+fn explain(out: &mut [u8], queue: &[u8], answer: QueueAnswer) -> usize
+    ensures { λ r. ⌜ written (now (out .exit)) r ≡ append (written (now (out .entry)) 0) (explanationOf (cutOf (now (queue .entry)) .records) answer) ⌝ }
+{
+    let QueueAnswer::Filed(counts) = answer else {
+        return refused_line(out, refusal_in(answer));
+    };
+    let heading = text::words(out, 0, b"record slot issue fate\n");
+    let records = record_lines(out, heading, queue);
+    counts_line(out, records, counts)
+}
+
+fn record_lines(out: &mut [u8], at: usize, queue: &[u8]) -> usize
+    ensures { λ r. ⌜ written (now (out .exit)) r ≡ append (written (now (out .entry)) at) (recordLines 1 emptyShelf (cutOf (now (queue .entry)) .records)) ⌝ }
+{
+    let mut next = at;
+    let mut shelf = Shelf::empty();
+    let mut k: u64 = 1;
+    let mut i: usize = 0;
+    while i < queue.len() {
+        let rest = &queue[i..];
+        let Record::Whole(head) = queue::record_of(rest) else {
+            return next;
+        };
+        let filed = queue::file_record(shelf, rest, head);
+        let issue = head.issue;
+        let answer = filed.answer;
+        next = record_line(out, next, k, head.slot, issue, answer);
+        shelf = filed.shelf;
+        k += 1;
+        i += head.end;
+    }
+    next
+}
+
+fn record_line(out: &mut [u8], at: usize, k: u64, slot: u64, issue: Issue, answer: Answer) -> usize
+    ensures { λ r. ⌜ written (now (out .exit)) r ≡ append (written (now (out .entry)) at) (recordLine k slot issue answer) ⌝ }
+{
+    let a = text::number_then(out, at, k, b' ');
+    let b = text::number_then(out, a, slot, b' ');
+    let c = issue_text(out, b, issue);
+    fate(out, c, answer)
+}
+
+fn issue_text(out: &mut [u8], at: usize, issue: Issue) -> usize
+    ensures { λ r. ⌜ written (now (out .exit)) r ≡ append (written (now (out .entry)) at) (issueText issue) ⌝ }
+{
+    let Issue::Named(n) = issue else {
+        return text::octet(out, at, b'-');
+    };
+    text::number(out, at, n as u64)
+}
+
+fn fate(out: &mut [u8], at: usize, answer: Answer) -> usize
+    ensures { λ r. ⌜ written (now (out .exit)) r ≡ append (written (now (out .entry)) at) (fate answer) ⌝ }
+{
+    match answer {
+        Answer::Kept => text::words(out, at, b" kept\n"),
+        Answer::Passed => text::words(out, at, b" passed\n"),
+        Answer::Refused(x) => refused_fate(out, at, x),
+    }
+}
+
+fn refused_fate(out: &mut [u8], at: usize, x: Refusal) -> usize
+    ensures { λ r. ⌜ written (now (out .exit)) r ≡ append (written (now (out .entry)) at) (refusedFate x) ⌝ }
+{
+    let a = text::words(out, at, b" refused ");
+    let b = text::number_then(out, a, x.number as u64, b' ');
+    let c = text::number_then(out, b, x.section as u64, b' ');
+    text::number_then(out, c, x.place as u64, b'\n')
+}
