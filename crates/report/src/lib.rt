@@ -1,6 +1,7 @@
 // What the two programs print of a queue that is filed to an empty shelf: the listing of what is then held, and the explanation of what
 // became of each record. Each function writes into a lent buffer, as far as there is room, and answers the index after what it wrote.
 ghost use mathlib.Core.Path.{_≡_};
+ghost use lib.ListN.{length, replicate};
 ghost use Rattle.octets.specs.Octets.{beAt};
 ghost use Rattle.queue.specs.Queues.{cutOf};
 ghost use Rattle.shelf.specs.Shelves.{emptyShelf};
@@ -15,6 +16,13 @@ use queue::QueueAnswer;
 use queue::Record;
 use shelf::Shelf;
 use shelf::Slot;
+
+// Room for a queue, and for one octet more than the longest may have, so that a longer one is told.
+pub fn queue_buffer() -> [u8; 65537]
+    ensures { λ r. ⌜ (r ≡ replicate 65537 0) × (65537 ≡ length r) ⌝ }
+{
+    [0; 65537]
+}
 
 pub fn listing(queue: &[u8], out: &mut [u8]) -> usize
     ensures { λ r. ⌜ written (now (out .exit)) r ≡ append (written (now (out .entry)) 0) (listing (now (queue .entry))) ⌝ }
