@@ -378,7 +378,7 @@ def short_form(text):
 
 
 def expected(queue):
-    """What the program `queues` prints of this queue."""
+    """What the program `cases` prints of this queue."""
     return listing(queue) + short_form(explanation(queue))
 
 

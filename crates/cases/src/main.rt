@@ -2,13 +2,15 @@
 // compared with what document 01 says. A line of input is `SECTION LENGTH OCTETS`: the reader to ask, the length of the
 // section to lend it, and its octets in hexadecimal, of which the last stands for the rest. For unpacking it is
 // `7 LENGTH OCTETS / LENGTH OCTETS / PLACES`: section 5, section 7, and the places of the row, each of which holds 9 before. A
-// line that starts with `#` is printed as it is. Lines that start with a letter file fields and join shelves (`shelves`).
+// line that starts with `#` is printed as it is. Lines that start with a letter file fields and join shelves (`shelves`), but for
+// `q LENGTH OCTETS`: a queue, of which the listing and the explanation are printed (`queues`).
 ghost use mathlib.Core.Path.{_≡_};
 ghost use lib.ListN.{length};
 use shelf::Shelf;
 use shelves::Shelves;
 
 mod lines;
+mod queues;
 mod section1;
 mod section5;
 mod shelves;
@@ -49,6 +51,10 @@ fn run_line(line: &[u8], shelves: Shelves) -> Shelves {
 fn run_order(line: &[u8], order: u8, shelves: Shelves) -> Shelves {
     if order == b'#' {
         output::text(line);
+        return shelves;
+    }
+    if order == b'q' {
+        queues::show(line);
         return shelves;
     }
     if b'a' <= order {
