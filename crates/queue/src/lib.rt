@@ -307,12 +307,12 @@ fn file_next(progress: Progress, octets: &[u8], head: Head) -> Progress
 fn well_cut(queue: &[u8]) -> bool
     ensures { λ r. ⌜ r ≡ cutOf (now (queue .entry)) .whole ⌝ }
 {
-    let mut at: usize = 0;
-    while at < queue.len() {
-        let Record::Whole(head) = record_of(&queue[at..]) else {
+    let mut i: usize = 0;
+    while i < queue.len() {
+        let Record::Whole(head) = record_of(&queue[i..]) else {
             return false;
         };
-        at += head.end;
+        i += head.end;
     }
     true
 }

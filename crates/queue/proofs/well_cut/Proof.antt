@@ -13,15 +13,15 @@ use Rattle.queue.proofs.Walks.{Onward, walk-on, walk-broken, walk-end}
 use Rattle.queue.proofs.well_cut.Statement.{statement}
 use Rattle.queue.proofs.well_cut.Tie as tie
 
-record Inv (queue : List ℕ) (at : ℕ) : Type 0 where
-  inside : at ≤ length queue
-  so-far : cutOf (drop at queue) .whole ≡ cutOf queue .whole
+record Inv (queue : List ℕ) (i : ℕ) : Type 0 where
+  inside : i ≤ length queue
+  so-far : cutOf (drop i queue) .whole ≡ cutOf queue .whole
 
 abbrev Inv-loop : tie.InvT-loop
-Inv-loop queue at₀ at = Inv queue at
+Inv-loop queue i₀ i = Inv queue i
 
 abbrev μ-loop : tie.MeasureT-loop
-μ-loop queue at₀ at = length queue - at
+μ-loop queue i₀ i = length queue - i
 
 loop-holds : tie.Need-loop-holds Inv-loop μ-loop
 loop-holds c = record { inside = omega arith; so-far = refl }
@@ -45,17 +45,17 @@ returns : tie.Need-returns Inv-loop μ-loop
 returns c =
     let r = c .before .before in
     let l = r .before .before .before in
-    let broken = walk-broken (now (l .before .before .args .queue)) (l .loop .at) (r .before .before .loop-test .taken) (sym (r .record-of .ensures) ∙ c .enum-told .given .1) in
+    let broken = walk-broken (now (l .before .before .args .queue)) (l .loop .i) (r .before .before .loop-test .taken) (sym (r .record-of .ensures) ∙ c .enum-told .given .1) in
     sym (ap (λ (x : Cut). x .whole) broken) ∙ l .loop .inv .so-far
 
-on : (c : tie.After-struct-known Inv-loop μ-loop) → Onward (now (c .before .before .before .before .before .before .before .before .before .args .queue)) (c .before .before .before .before .before .before .before .loop .at) (c .before .before .head .given .0 .0)
+on : (c : tie.After-struct-known Inv-loop μ-loop) → Onward (now (c .before .before .before .before .before .before .before .before .before .args .queue)) (c .before .before .before .before .before .before .before .loop .i) (c .before .before .head .given .0 .0)
 on c =
     let r = c .before .before .before .before in
     let l = r .before .before .before in
-    walk-on (now (l .before .before .args .queue)) (l .loop .at) _ (l .loop .inv .inside) (sym (r .record-of .ensures) ∙ c .before .before .head .given .1)
+    walk-on (now (l .before .before .args .queue)) (l .loop .i) _ (l .loop .inv .inside) (sym (r .record-of .ensures) ∙ c .before .before .head .given .1)
 
-add-at : tie.Need-add-at Inv-loop μ-loop
-add-at c = omega (arith, on c .inside, c .before .before .before .before .before .before .before .before .before .good)
+add-i : tie.Need-add-i Inv-loop μ-loop
+add-i c = omega (arith, on c .inside, c .before .before .before .before .before .before .before .before .before .good)
 
 loop-less : tie.Need-loop-less Inv-loop μ-loop
 loop-less c = omega (arith, on c .more, on c .inside)
@@ -70,7 +70,7 @@ loop-again c =
 returns-2 : tie.Need-returns-2 Inv-loop μ-loop
 returns-2 c =
     let l = c .before in
-    sym (ap (λ (x : Cut). x .whole) (walk-end (now (l .before .before .args .queue)) (l .loop .at) (c .loop-test .left))) ∙ l .loop .inv .so-far
+    sym (ap (λ (x : Cut). x .whole) (walk-end (now (l .before .before .args .queue)) (l .loop .i) (c .loop-test .left))) ∙ l .loop .inv .so-far
 
 pub well-cut-spec : {M : Type 1} → statement M
 well-cut-spec =
@@ -86,7 +86,7 @@ well-cut-spec =
     enum-known-head
     enum-told
     returns
-    add-at
+    add-i
     loop-less
     loop-again
     returns-2)
