@@ -18,10 +18,10 @@ fn explain(queue: &[u8]) {
     standard::print(&text[..end]);
 }
 
-// Room for a line of every record of the longest queue (`report/proofs/Room.antt`). The `ensures` gives only the length, which lending the
-// array as a slice needs.
-fn text_buffer() -> [u8; 1310720]
-    ensures { λ r. ⌜ 1310720 ≡ length r ⌝ }
+// Room for the whole text, whatever the queue (`explanation-fits` of `report/proofs/Room.antt`). The `ensures` gives only the length, which
+// lending the array as a slice needs.
+fn text_buffer() -> [u8; 2163200]
+    ensures { λ r. ⌜ 2163200 ≡ length r ⌝ }
 {
-    [0; 1310720]
+    [0; 2163200]
 }

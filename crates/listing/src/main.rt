@@ -18,9 +18,10 @@ fn list(queue: &[u8]) {
     standard::print(&text[..end]);
 }
 
-// Room for 64 lines and more (`report/proofs/Room.antt`). The `ensures` gives only the length, which lending the array as a slice needs.
-fn text_buffer() -> [u8; 4096]
-    ensures { λ r. ⌜ 4096 ≡ length r ⌝ }
+// Room for the whole text, whatever the queue (`listing-fits` of `report/proofs/Room.antt`). The `ensures` gives only the length, which lending
+// the array as a slice needs.
+fn text_buffer() -> [u8; 16384]
+    ensures { λ r. ⌜ 16384 ≡ length r ⌝ }
 {
-    [0; 4096]
+    [0; 16384]
 }

@@ -15,17 +15,34 @@ use Rattle.text.specs.Text.{digitsIn, decimal, wholeNumber}
 
 -- ---- lengths
 
+-- all digits but the last, and the last
+one-more : (most k n : ℕ) → length (digitsIn most (n / 10)) ≤ k → length (digitsIn (suc most) n) ≤ suc k
+unfolding digitsIn
+one-more most k n front = by-ten (ltb n 10)
+  where
+    by-ten : (b : Bool) → length (cond b ((48 + n) ∷ []) (digitsIn most (n / 10) ++ ((48 + n % 10) ∷ []))) ≤ suc k
+    by-ten true = omega arith
+    by-ten false = simp length-append (omega arith)
+
 short : (most k n : ℕ) → 1 ≤ k → n < 10 ^ k → length (digitsIn most n) ≤ k
 unfolding digitsIn
 short zero k n some h = omega arith
 short (suc most) zero n some h = absurd (omega arith)
 short (suc most) (suc zero) n some h = simp (lt-ltb n 10 h) (omega arith)
-short (suc most) (suc (suc k)) n some h =
-    by-ten (ltb n 10) (short most (suc k) (n / 10) (omega arith) (omega (arith, pow-suc 10 (suc k))))
-  where
-    by-ten : (b : Bool) → length (digitsIn most (n / 10)) ≤ suc k → length (cond b ((48 + n) ∷ []) (digitsIn most (n / 10) ++ ((48 + n % 10) ∷ []))) ≤ suc (suc k)
-    by-ten true front = omega arith
-    by-ten false front = simp length-append (omega arith)
+short (suc most) (suc (suc k)) n some h = one-more most (suc k) n (short most (suc k) (n / 10) (omega arith) (omega (arith, pow-suc 10 (suc k))))
+
+within : (most n : ℕ) → length (digitsIn most n) ≤ most
+unfolding digitsIn
+within zero n = omega arith
+within (suc most) n = one-more most most n (within most (n / 10))
+
+-- the text of any number has at most 20 digits, and of a signed one a sign before them
+pub decimal-most : (n : ℕ) → length (decimal n) ≤ 20
+decimal-most n = within 20 n
+
+pub whole-number-most : (z : ℤ) → length (wholeNumber z) ≤ 21
+whole-number-most (pos n) = omega (arith, decimal-most n)
+whole-number-most (negsuc n) = omega (arith, decimal-most (suc n))
 
 -- a number below a power of ten has no more digits than that power has zeros
 pub decimal-short : (k n : ℕ) → 1 ≤ k → n < 10 ^ k → length (decimal n) ≤ k

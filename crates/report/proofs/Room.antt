@@ -1,0 +1,150 @@
+-- The text of either program fits the buffer that it is written into, whatever the queue: nothing of it is ever cut.
+-- Assumes nothing.
+use mathlib.Core.Path.{_≡_, refl}
+use mathlib.Core.Bool.{Bool, true, false, cond}
+use mathlib.Core.List.{List, [], _++_}
+use Prim.Native.Nat.{ℕ, zero, suc, _+_, _*_, _-_, _^_, _≤_, _<_}
+use native.Mathlib.Nat.{zero-add}
+use native.Mathlib.Omega.{arith}
+use lib.Dec.{ltb, eqb}
+use lib.ListN.{length, drop, length-append, length-drop}
+use borrow.Author.Tests.{ltb-false}
+use Rattle.layout.specs.declared.Refusal.{Refusal}
+use Rattle.card.specs.declared.Card.{Card}
+use Rattle.shelf.specs.Shelves.{emptyShelf, slotAt}
+use Rattle.shelf.specs.declared.Slot.{Slot}
+use Rattle.shelf.specs.declared.Shelf.{Shelf}
+use Rattle.filing.specs.declared.Issue.{Issue}
+use Rattle.filing.specs.declared.Issue.the-variants.{NotNamed, Named}
+use Rattle.filing.specs.declared.Answer.{Answer}
+use Rattle.filing.specs.declared.Answer.the-variants.{Kept, Passed, Refused}
+use Rattle.queue.specs.Records.{issueFrom, recordOf}
+use Rattle.queue.specs.Queues.{recordIn, recordFiled, ahead, atEnd, cutIn, cutOf, queueRefusal, queueFiled}
+use Rattle.queue.specs.declared.Counts.{Counts}
+use Rattle.queue.specs.declared.Record.{Record}
+use Rattle.queue.specs.declared.Record.the-variants.{Whole, Broken}
+use Rattle.queue.specs.declared.QueueAnswer.{QueueAnswer}
+use Rattle.queue.specs.declared.QueueAnswer.the-variants.{Filed as filedAll, Refused as refusedAll}
+use Rattle.queue.proofs.Taken.{taken}
+use Rattle.queue.proofs.Cuts.{stands}
+use Rattle.text.specs.Text.{written, append}
+use Rattle.text.proofs.Laws.{append-fits}
+use Rattle.text.proofs.Decimal.{decimal-short, decimal-most, whole-number-most}
+use Rattle.report.specs.Texts.{countsLine, refusedLine, templateIn, timeText, cardLine, slotLine, slotLines, listingOf, issueText, fate, recordLine, recordLines, explanationOf, listing, explanation}
+
+-- ---- the lines that both have
+
+counts-line : (n : Counts) → length (countsLine n) ≤ 83
+unfolding countsLine
+counts-line n = simp length-append (omega (arith, decimal-most (n .kept), decimal-most (n .passed), decimal-most (n .refused)))
+
+refused-line : (x : Refusal) → length (refusedLine x) ≤ 29
+unfolding refusedLine
+refused-line x = simp length-append (omega (arith, decimal-most (x .number)))
+
+-- ---- the listing
+
+card-line : (slot : ℕ) (c : Card) → length (cardLine slot c) ≤ 190
+unfolding cardLine timeText
+card-line slot c =
+    simp length-append
+    (omega (arith, decimal-most slot, whole-number-most (c .year), decimal-most (c .month), decimal-most (c .day), decimal-most (c .hour), decimal-most (c .minute), decimal-most (c .second), decimal-most (c .issue), decimal-most (templateIn c)))
+
+slot-line : (slot : ℕ) (x : Slot) → length (slotLine slot x) ≤ 190
+unfolding slotLine
+slot-line slot x = by-held (x .held)
+  where
+    by-held : (b : Bool) → length (cond b (cardLine slot (x .card)) []) ≤ 190
+    by-held true = card-line slot (x .card)
+    by-held false = omega arith
+
+slot-lines : (s : Shelf) (slot more : ℕ) → length (slotLines s slot more) ≤ 190 * more
+unfolding slotLines
+slot-lines s slot zero = omega arith
+slot-lines s slot (suc more) = simp length-append (omega (arith, slot-line slot (slotAt s slot), slot-lines s (slot + 1) more))
+
+listing-of : (s : Shelf) (a : QueueAnswer) → length (listingOf s a) ≤ 16384
+unfolding listingOf
+listing-of s (filedAll n) = simp length-append (omega (arith, slot-lines s 0 64, counts-line n))
+listing-of s (refusedAll x) = omega (arith, refused-line x)
+
+pub listing-fits : (q : List ℕ) → length (listing q) ≤ 16384
+unfolding listing
+listing-fits q = listing-of (queueFiled emptyShelf q .shelf) (queueFiled emptyShelf q .answer)
+
+-- ---- the explanation
+
+issue-text : (stored : ℕ) → stored ≤ 4294967296 → length (issueText (issueFrom stored)) ≤ 10
+issue-text stored h = by-named (eqb stored 0)
+  where
+    by-named : (b : Bool) → length (issueText (cond b NotNamed (Named (stored - 1)))) ≤ 10
+    by-named true = omega arith
+    by-named false = decimal-short 10 (stored - 1) (omega arith) (omega arith)
+
+fate-text : (a : Answer) → length (fate a) ≤ 72
+fate-text Kept = omega arith
+fate-text Passed = omega arith
+fate-text (Refused x) = simp length-append (omega (arith, decimal-most (x .number), decimal-most (x .section), decimal-most (x .place)))
+
+record-line : (k slot : ℕ) (issue : Issue) (a : Answer) → k < 10 ^ 5 → slot ≤ 4294967296 → length (issueText issue) ≤ 10 → length (recordLine k slot issue a) ≤ 99
+unfolding recordLine
+record-line k slot issue a few-k few-slot few-issue =
+    simp length-append (omega (arith, decimal-short 5 k (omega arith) few-k, decimal-short 10 slot (omega arith) (omega arith), fate-text a))
+
+-- what the lines of at most so many records have at most
+abbrev Bounded : ℕ → Type 0
+Bounded most = (k : ℕ) (shelf : Shelf) (s : List ℕ) → k + length s < 10 ^ 5 → length (recordLines k shelf (cutIn most s .records)) ≤ 33 * length s
+
+-- a record has three numbers, each of at least one octet, and its line at most 99 octets: 33 for each octet of the record
+record-lines : (most : ℕ) → Bounded most
+unfolding cutIn recordLines
+record-lines zero k shelf s room = omega arith
+record-lines (suc most) k shelf s room = by-end (record-lines most) (atEnd s)
+  where
+    by-record : Bounded most → (r : Record) → recordOf s ≡ r → length (recordLines k shelf (ahead s r (λ rest. cutIn most rest) .records)) ≤ 33 * length s
+    by-record others Broken e = omega arith
+    by-record others (Whole h) e =
+        let r = stands s h e in
+        let x = taken _ _ _ (r .first) in
+        let y = taken _ _ _ (r .second) in
+        let z = taken _ _ _ (r .third) in
+        let filed = recordFiled shelf (recordIn s h) in
+        let line = record-line k (h .slot) (h .issue) (filed .answer) (omega arith) (x .small) (rw (r .named) (issue-text (r .stored) (y .small))) in
+        let rest = others (k + 1) (filed .shelf) (drop (h .end) s) (simp length-drop (omega arith)) in
+        simp length-append (omega (arith, line, rest, length-drop (h .end) s))
+
+    by-end : Bounded most → (b : Bool) → length (recordLines k shelf (cond b (record { records = []; whole = true }) (ahead s (recordOf s) (λ rest. cutIn most rest)) .records)) ≤ 33 * length s
+    by-end others true = omega arith
+    by-end others false = by-record others (recordOf s) refl
+
+-- a queue that is not refused has at most 65,536 octets
+accepted-short : (s : Shelf) (q : List ℕ) (n : Counts) → queueFiled s q .answer ≡ filedAll n → length q ≤ 65536
+unfolding queueFiled queueRefusal
+accepted-short s q n e = by-length (ltb 65536 (length q)) refl
+  where
+    by-length : (b : Bool) → ltb 65536 (length q) ≡ b → length q ≤ 65536
+    by-length true t =
+        let refused : refusedAll (record { number = 2; section = 0; place = 0 }) ≡ filedAll n = rw t at e in
+        let z : _≡_ {A = ℕ} 0 1 = cc in absurd (omega arith)
+    by-length false t = ltb-false 65536 (length q) t
+
+pub explanation-fits : (q : List ℕ) → length (explanation q) ≤ 2163200
+unfolding explanation explanationOf cutOf
+explanation-fits q = by-answer (queueFiled emptyShelf q .answer) refl
+  where
+    by-answer : (a : QueueAnswer) → queueFiled emptyShelf q .answer ≡ a → length (explanationOf (cutOf q .records) a) ≤ 2163200
+    by-answer (filedAll n) e =
+        let short = accepted-short emptyShelf q n e in
+        simp length-append (omega (arith, record-lines (length q) 1 emptyShelf q (omega arith), counts-line n))
+    by-answer (refusedAll x) e = omega (arith, refused-line x)
+
+-- ---- so what the programs' calls leave at the start of the buffer is the whole text
+
+whole : (t out : List ℕ) → length t ≤ length out → append (written out 0) t ≡ written (t ++ drop (length t) out) (length t)
+whole t out h = simp zero-add at (append-fits (written out 0) t (omega arith))
+
+pub listing-whole : (q out : List ℕ) → length out ≡ 16384 → append (written out 0) (listing q) ≡ written (listing q ++ drop (length (listing q)) out) (length (listing q))
+listing-whole q out e = whole (listing q) out (omega (arith, listing-fits q))
+
+pub explanation-whole : (q out : List ℕ) → length out ≡ 2163200 → append (written out 0) (explanation q) ≡ written (explanation q ++ drop (length (explanation q)) out) (length (explanation q))
+explanation-whole q out e = whole (explanation q) out (omega (arith, explanation-fits q))
