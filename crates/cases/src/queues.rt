@@ -37,8 +37,8 @@ fn listing_buffer() -> [u8; 16384]
     [0; 16384]
 }
 
-fn explanation_buffer() -> [u8; 3145728]
-    ensures { λ r. ⌜ 3145728 ≡ length r ⌝ }
+fn explanation_buffer() -> [u8; 2163200]
+    ensures { λ r. ⌜ 2163200 ≡ length r ⌝ }
 {
-    [0; 3145728]
+    [0; 2163200]
 }
