@@ -7,3 +7,4 @@ pub mod Counting
 pub mod Histories
 pub mod QueueIsJoin
 pub mod Concatenation
+pub mod StarredQueues

@@ -3,3 +3,4 @@ pub mod Records
 pub mod Bodies
 pub mod Queues
 pub mod History
+pub mod Examples
