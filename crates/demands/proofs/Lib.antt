@@ -1,2 +1,3 @@
 pub mod Starred
-pub mod Try
+pub mod Demand2
+pub mod Demand3

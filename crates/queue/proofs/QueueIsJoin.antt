@@ -40,6 +40,17 @@ records-join : (rs : List Sent) (s : Shelf) → Tidy s → recordsFiled (fromSta
 records-join rs s t =
     records-are-cards rs (fromStart s) ∙ file-is-join (cardsIn rs) s t ∙ ap (joinShelf s) (sym (records-are-cards rs (fromStart emptyShelf)))
 
+-- a refused record leaves the shelf as if it had never been sent
+pub as-if-never-sent : (earlier later : List Sent) (r : Sent) (p : Progress) (number section place : ℕ) → recordFiling r ≡ refusedFiling number section place
+    → recordsFiled p (earlier ++ (r ∷ later)) .shelf ≡ recordsFiled p (earlier ++ later) .shelf
+unfolding recordsFiled recordFiled filedBy
+as-if-never-sent [] later r p number section place e =
+    records-are-cards later (oneMore (p .counts) (recordFiled (p .shelf) r))
+    ∙ ap (fileAll (cardsIn later)) (ap (λ (f : Filing). filedBy (p .shelf) (r .slot) f .shelf) e)
+    ∙ sym (records-are-cards later p)
+as-if-never-sent (x ∷ earlier) later r p number section place e =
+    as-if-never-sent earlier later r (oneMore (p .counts) (recordFiled (p .shelf) x)) number section place e
+
 -- ---- the theorems
 
 pub queue-is-join : (q : List ℕ) (s : Shelf) → Tidy s → queueFiled s q .shelf ≡ joinShelf s (queueFiled emptyShelf q .shelf)

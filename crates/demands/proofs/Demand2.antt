@@ -1,0 +1,167 @@
+-- Demand 2. The definitions in it, for each section: what it means to follow the template and keep the value rules (`Follows…`,
+-- `specs/Accepted.antt` of its crate), the list of its fields (`fields…`), of which `layout/specs/Fields.antt` computes where each stands and
+-- what it says, and what a program's answer says (`told`). A contract of a reader is `told a ≡ outcome… s`, so each theorem is about every
+-- answer `a` that the contract allows.
+-- Assumes nothing.
+use Prim.Native.Nat.{ℕ, zero, suc, _+_, _*_, _<_, _≤_}
+use native.Mathlib.Omega.{arith}
+use mathlib.Core.Path.{_≡_, refl, sym, ap, subst, _∙_}
+use mathlib.Core.Bool.{Bool}
+use mathlib.Core.Logic.{_↔_}
+use mathlib.Core.List.{List, [], _∷_}
+use lib.ListN.{length, getD, drop}
+use Rattle.octets.specs.Octets.{part}
+use Rattle.layout.specs.Fields.{Value, after, valuesOf, octetsOf}
+use Rattle.layout.specs.Outcomes.{Outcome, refused, read}
+use Rattle.layout.specs.Shown.{shownOf}
+use Rattle.identification.specs.Section1 as one
+use Rattle.identification.specs.Accepted.{Follows₁}
+use Rattle.identification.specs.declared.Answer.{Answer as Answer₁}
+use Rattle.identification.specs.declared.Answer.the-variants.{Read as Read₁}
+use Rattle.identification.specs.declared.Identification.{Identification}
+use Rattle.identification.specs.declared.Template.{Template as Template₁}
+use Rattle.identification.proofs.AcceptedExactlyWhen.{accepted-exactly-when as exactly₁, accepted-follows as follows₁}
+use Rattle.identification.proofs.FieldsCoverOnce.{covered as covered₁}
+use Rattle.grid.specs.Section3 as three
+use Rattle.grid.specs.Accepted.{Follows₃, NoList}
+use Rattle.grid.specs.declared.Answer.{Answer as Answer₃}
+use Rattle.grid.specs.declared.Answer.the-variants.{Read as Read₃}
+use Rattle.grid.specs.declared.Grid.{Grid}
+use Rattle.grid.specs.declared.Template.{Template as Template₃}
+use Rattle.grid.proofs.AcceptedExactlyWhen.{accepted-exactly-when as exactly₃, accepted-follows as follows₃, all-fits}
+use Rattle.grid.proofs.FieldsCoverOnce.{covered as covered₃}
+use Rattle.grid.proofs.ListShown.{those-very-octets, without-a-list, refused-shows-none}
+use Rattle.product.specs.Section4 as four
+use Rattle.product.specs.Views.{rangeOf, membersOf, coordinatesOf, strung}
+use Rattle.product.specs.Accepted.{Follows₄}
+use Rattle.product.specs.declared.Answer.{Answer as Answer₄}
+use Rattle.product.specs.declared.Answer.the-variants.{Read as Read₄}
+use Rattle.product.specs.declared.Product.{Product}
+use Rattle.product.specs.declared.PartKind.{PartKind}
+use Rattle.product.proofs.AcceptedExactlyWhen.{accepted-exactly-when as exactly₄, accepted-follows as follows₄, follows-total}
+use Rattle.product.proofs.FieldsCoverOnce.{covered as covered₄}
+use Rattle.product.proofs.ViewsAreTheLayouts.{views-shown, range-whole, no-range, no-members, refused-nothing}
+use Rattle.packing.specs.Packed.{bitsFrom, packedAt, packedFrom, unpacked}
+use Rattle.packing.specs.Section5 as five
+use Rattle.packing.specs.Section7 as seven
+use Rattle.packing.specs.Accepted.{Follows₅, Follows₇}
+use Rattle.packing.specs.declared.Answer.{Answer as Answer₅}
+use Rattle.packing.specs.declared.Answer.the-variants.{Read as Read₅}
+use Rattle.packing.specs.declared.Packing.{Packing}
+use Rattle.packing.specs.declared.DataAnswer.{DataAnswer}
+use Rattle.packing.specs.declared.DataAnswer.the-variants.{Read as Read₇}
+use Rattle.packing.specs.declared.DataSection.{DataSection}
+use Rattle.packing.proofs.AcceptedExactlyWhen.{accepted-exactly-when₅, accepted-follows₅, accepted-exactly-when₇, accepted-follows₇}
+use Rattle.packing.proofs.FieldsCoverOnce.{covered₅, covered₇}
+use Rattle.field.specs.Field.{told as toldField, fieldOutcome}
+use Rattle.field.specs.Accepted.{FollowsField, Accepted as AcceptedField}
+use Rattle.field.specs.declared.Answer.{Answer as FieldAnswer}
+use Rattle.field.proofs.AcceptedExactlyWhen.{accepted-exactly-when as exactly-field}
+use Rattle.demands.specs.Accepted.{Accepted}
+
+-- ---- an outcome is accepted if it is some record's values
+
+accepted-is : (o : Outcome) → Accepted o → (vs : List Value) × (o ≡ read vs)
+accepted-is (read vs) a = (vs, refl)
+
+is-accepted : {o : Outcome} (vs : List Value) → o ≡ read vs → Accepted o
+is-accepted vs e = subst Accepted (sym e) tt
+
+-- so of an answer that says an outcome
+by-outcome : {F : Type 0} {said o : Outcome} → said ≡ o → ((vs : List Value) × (o ≡ read vs)) ↔ F → Accepted said ↔ F
+by-outcome {F} {said} {o} e w = ((λ a. w .0 (accepted-is o (subst Accepted e a))), (λ f. let r = w .1 f in subst Accepted (sym e) (is-accepted (r .0) (r .1))))
+
+-- ---- "A section is accepted exactly when it has at most 65,536 octets, follows the WMO FM 92 template layouts and keeps the value rules"
+
+pub section-1-accepted : (s : List ℕ) (a : Answer₁) → one.told a ≡ one.outcome₁ s → Accepted (one.told a) ↔ ((template : Template₁) × Follows₁ template s)
+section-1-accepted s a e = by-outcome e (exactly₁ s)
+
+pub section-3-accepted : (s : List ℕ) (a : Answer₃) → three.told a ≡ three.outcome₃ s → Accepted (three.told a) ↔ ((template : Template₃) × Follows₃ template s)
+section-3-accepted s a e = by-outcome e (exactly₃ s)
+
+pub section-4-accepted : (s : List ℕ) (a : Answer₄) → four.told a ≡ four.outcome₄ s → Accepted (four.told a) ↔ ((kind : PartKind) × (timed : Bool) × Follows₄ kind timed s)
+section-4-accepted s a e = by-outcome e (exactly₄ s)
+
+pub section-5-accepted : (s : List ℕ) (a : Answer₅) → five.told₅ a ≡ five.outcome₅ s → Accepted (five.told₅ a) ↔ Follows₅ s
+section-5-accepted s a e = by-outcome e (accepted-exactly-when₅ s)
+
+pub section-7-accepted : (n bits : ℕ) (s : List ℕ) (a : DataAnswer) → seven.told₇ a ≡ seven.outcome₇ n bits s → Accepted (seven.told₇ a) ↔ Follows₇ n bits s
+section-7-accepted n bits s a e = by-outcome e (accepted-exactly-when₇ n bits s)
+
+pub field-accepted : (s1 s3 s4 s5 s7 : List ℕ) (a : FieldAnswer) → toldField a ≡ fieldOutcome s1 s3 s4 s5 s7 → AcceptedField (toldField a) ↔ FollowsField s1 s3 s4 s5 s7
+field-accepted s1 s3 s4 s5 s7 a e =
+    let w = exactly-field s1 s3 s4 s5 s7 in
+    ((λ x. w .0 (subst AcceptedField e x)), (λ f. subst AcceptedField (sym e) (w .1 f)))
+
+-- ---- "its length is the template's octet count for its own repeat counts, and its fields cover every octet once": the octets of the fields,
+-- strung together, are the section
+
+pub section-1-covered : (template : Template₁) (s : List ℕ) → Follows₁ template s → octetsOf (after 0 (one.fields₁ template)) s ≡ s
+section-1-covered template s f = covered₁ template s (f .whole)
+
+pub section-3-covered : (template : Template₃) (s : List ℕ) → Follows₃ template s → octetsOf (after 0 (three.fields₃ template (three.listOctets s))) s ≡ s
+section-3-covered template s f = covered₃ template (three.listWidth s) (three.listCount s) s (all-fits template s (f .list) .whole)
+
+pub section-4-covered : (kind : PartKind) (timed : Bool) (s : List ℕ) → Follows₄ kind timed s → octetsOf (after 0 (four.fieldsIn kind timed s)) s ≡ s
+section-4-covered kind timed s f = covered₄ kind timed _ _ _ s (follows-total kind timed s f)
+
+pub section-5-covered : (s : List ℕ) → Follows₅ s → octetsOf (after 0 five.fields₅) s ≡ s
+section-5-covered s f = covered₅ s (f .whole)
+
+pub section-7-covered : (n bits : ℕ) (s : List ℕ) → Follows₇ n bits s → octetsOf (after 0 (seven.fields₇ n bits)) s ≡ s
+section-7-covered n bits s f = covered₇ n bits s (f .whole)
+
+-- ---- "What is read out is what those octets mean": a record that is read has the values of the fields, and section 1's the real year beside them
+
+pub section-1-means : (s : List ℕ) (x : Identification) → one.told (Read₁ x) ≡ one.outcome₁ s → (template : Template₁) × Follows₁ template s × (one.valuesIn x ≡ one.values₁ template s)
+unfolding one.told
+section-1-means s x e = follows₁ s (one.valuesIn x) (sym e)
+
+pub section-3-means : (s : List ℕ) (x : Grid) → three.told (Read₃ x) ≡ three.outcome₃ s → (template : Template₃) × Follows₃ template s × (three.valuesIn x ≡ three.values₃ template s)
+unfolding three.told
+section-3-means s x e = follows₃ s (three.valuesIn x) (sym e)
+
+pub section-4-means : (s : List ℕ) (x : Product) → four.told (Read₄ x) ≡ four.outcome₄ s → (kind : PartKind) × (timed : Bool) × Follows₄ kind timed s × (four.valuesIn x ≡ four.values₄ kind timed s)
+unfolding four.told
+section-4-means s x e = follows₄ s (four.valuesIn x) (sym e)
+
+pub section-5-means : (s : List ℕ) (x : Packing) → five.told₅ (Read₅ x) ≡ five.outcome₅ s → Follows₅ s × (five.valuesIn₅ x ≡ valuesOf (after 0 five.fields₅) s)
+unfolding five.told₅
+section-5-means s x e = accepted-follows₅ s (five.valuesIn₅ x) (sym e)
+
+pub section-7-means : (n bits : ℕ) (s : List ℕ) (x : DataSection) → seven.told₇ (Read₇ x) ≡ seven.outcome₇ n bits s → Follows₇ n bits s × (seven.valuesIn₇ x ≡ valuesOf (after 0 (seven.fields₇ n bits)) s)
+unfolding seven.told₇
+section-7-means n bits s x e = accepted-follows₇ n bits s (seven.valuesIn₇ x) (sym e)
+
+-- ---- a caller is shown those very octets of the section, and nothing of a refused one
+
+pub list-of-section-3 : (template : Template₃) (s : List ℕ) → Follows₃ template s → three.list₃ s ≡ part s (1 + three.baseEnd template) (three.listOctets s)
+list-of-section-3 = those-very-octets
+
+pub no-list-of-section-3 : (s : List ℕ) (number section place : ℕ) → three.outcome₃ s ≡ refused number section place → three.list₃ s ≡ []
+no-list-of-section-3 = refused-shows-none
+
+-- the time ranges, strung together, the members and the coordinates are the octets that the layout shows, in their order
+pub views-of-section-4 : (kind : PartKind) (timed : Bool) (s : List ℕ) → Follows₄ kind timed s → shownOf (after 0 (four.fieldsIn kind timed s)) s ≡ strung (rangeOf s) (four.rangesAt kind timed s) ∷ membersOf s ∷ coordinatesOf s ∷ []
+views-of-section-4 = views-shown
+
+pub range-has-12 : (kind : PartKind) (timed : Bool) (s : List ℕ) → Follows₄ kind timed s → (k : ℕ) → k < four.rangesAt kind timed s → length (rangeOf s k) ≡ 12
+range-has-12 = range-whole
+
+pub no-range-from-n-up : (kind : PartKind) (timed : Bool) (s : List ℕ) → Follows₄ kind timed s → (k : ℕ) → four.rangesAt kind timed s ≤ k → rangeOf s k ≡ []
+no-range-from-n-up = no-range
+
+pub no-views-of-section-4 : (s : List ℕ) (number section place : ℕ) → four.outcome₄ s ≡ refused number section place → ((k : ℕ) → rangeOf s k ≡ []) × (membersOf s ≡ []) × (coordinatesOf s ≡ [])
+no-views-of-section-4 = refused-nothing
+
+-- ---- unpacking: number i is what the bits from i x bits on stand for, the most significant first
+
+number-from : (bits i n k : ℕ) (xs : List ℕ) → k < n → getD (packedFrom bits xs i n) k 0 ≡ packedAt bits xs (i + k)
+unfolding packedFrom
+number-from bits i zero k xs l = absurd (omega arith)
+number-from bits i (suc n) zero xs l = ap (packedAt bits xs) (omega arith)
+number-from bits i (suc n) (suc k) xs l = number-from bits (suc i) n k xs (omega arith) ∙ ap (packedAt bits xs) (omega arith)
+
+pub unpacked-means : (bits n k : ℕ) (xs : List ℕ) → k < n → getD (unpacked bits n xs) k 0 ≡ bitsFrom xs (k * bits) bits
+unfolding unpacked packedAt
+unpacked-means bits n k xs l = number-from bits 0 n k xs l ∙ ap (packedAt bits xs) (omega arith)
