@@ -400,6 +400,7 @@ def self_test():
     """Document 01's examples, worked out by hand, and what holds of every queue."""
     require(spelled(300) == bytes.fromhex("AC02") and number_at(bytes.fromhex("AC02"), 0) == (300, 2), "300 is AC 02")
     require(refused_with(bytes.fromhex("8000")) == 19, "80 00 is 19")
+    require(refused_with(bytes.fromhex("80000000")) == 19, "80 00 is 19, with two more numbers behind it")
     for n in (0, 1, 127, 128, 16383, 16384, 2 ** 21, 2 ** 28, 2 ** 32 - 1, 2 ** 32):
         require(number_at(spelled(n) + b"\5", 0) == (n, len(spelled(n))), f"{n} is read as it is spelled")
     require(spelled(2 ** 32) == GREATEST_NUMBER, "the greatest number is 80 80 80 80 10")

@@ -1,6 +1,4 @@
 // Says of each record of the queue on standard input what becomes of it, filed to an empty shelf, or that the queue is refused.
-ghost use mathlib.Core.Path.{_≡_};
-ghost use lib.ListN.{length};
 use standard::Input;
 
 fn main() {
@@ -13,15 +11,7 @@ fn main() {
 }
 
 fn explain(queue: &[u8]) {
-    let mut text = text_buffer();
-    let end = report::explanation(queue, &mut text);
+    let mut text = report::explanation_buffer();
+    let end = report::whole_explanation(queue, &mut text);
     standard::print(&text[..end]);
-}
-
-// Room for the whole text, whatever the queue (`explanation-fits` of `report/proofs/Room.antt`). The `ensures` gives only the length, which
-// lending the array as a slice needs.
-fn text_buffer() -> [u8; 2163200]
-    ensures { λ r. ⌜ 2163200 ≡ length r ⌝ }
-{
-    [0; 2163200]
 }

@@ -1,6 +1,4 @@
 // Lists what an empty shelf holds after the queue on standard input was filed to it, or that the queue is refused.
-ghost use mathlib.Core.Path.{_≡_};
-ghost use lib.ListN.{length};
 use standard::Input;
 
 fn main() {
@@ -13,15 +11,7 @@ fn main() {
 }
 
 fn list(queue: &[u8]) {
-    let mut text = text_buffer();
-    let end = report::listing(queue, &mut text);
+    let mut text = report::listing_buffer();
+    let end = report::whole_listing(queue, &mut text);
     standard::print(&text[..end]);
-}
-
-// Room for the whole text, whatever the queue (`listing-fits` of `report/proofs/Room.antt`). The `ensures` gives only the length, which lending
-// the array as a slice needs.
-fn text_buffer() -> [u8; 16384]
-    ensures { λ r. ⌜ 16384 ≡ length r ⌝ }
-{
-    [0; 16384]
 }

@@ -9,4 +9,4 @@ use Rattle.queue.specs.Examples.{starredQueues}
 
 pub queues-agree : AllAgree starredQueues
 unfolding AllAgree groups numberOf spelled recordOf cutIn cutOf queueRefusal
-queues-agree = (refl, (refl, (refl, tt)))
+queues-agree = (refl, (refl, (refl, (refl, tt))))

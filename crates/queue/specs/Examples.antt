@@ -1,6 +1,6 @@
--- Document 01's starred examples of queues: 300 in groups of seven is AC 02, and 80 00 is 19.
+-- Document 01's starred examples of queues: 300 in groups of seven is AC 02, and 80 00 is 19: no number, also where what would be an issue
+-- and a body length follow.
 -- Assumes nothing.
-use Prim.Native.Nat.{ℕ}
 use mathlib.Core.List.{List, [], _∷_, map}
 use lib.IntN.{ℤ, pos}
 use Rattle.layout.specs.Examples.{Example}
@@ -18,5 +18,6 @@ abbrev pub starredQueues : List Example
 starredQueues =
     record { made = map pos (spelled 5 300); stated = pos 0xac ∷ pos 0x02 ∷ [] }
     ∷ record { made = foundIn (numberOf (0xac ∷ 0x02 ∷ [])); stated = pos 300 ∷ pos 2 ∷ [] }
-    ∷ record { made = pos (queueRefusal (0x80 ∷ 0x00 ∷ [])) ∷ []; stated = pos 19 ∷ [] }
+    ∷ record { made = foundIn (numberOf (0x80 ∷ 0x00 ∷ [])); stated = [] }
+    ∷ record { made = pos (queueRefusal (0x80 ∷ 0x00 ∷ 0x00 ∷ 0x00 ∷ [])) ∷ []; stated = pos 19 ∷ [] }
     ∷ []

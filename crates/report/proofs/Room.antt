@@ -2,9 +2,8 @@
 -- Assumes nothing.
 use mathlib.Core.Path.{_≡_, refl}
 use mathlib.Core.Bool.{Bool, true, false, cond}
-use mathlib.Core.List.{List, [], _++_}
+use mathlib.Core.List.{List, []}
 use Prim.Native.Nat.{ℕ, zero, suc, _+_, _*_, _-_, _^_, _≤_, _<_}
-use native.Mathlib.Nat.{zero-add}
 use native.Mathlib.Omega.{arith}
 use lib.Dec.{ltb, eqb}
 use lib.ListN.{length, drop, length-append, length-drop}
@@ -27,10 +26,10 @@ use Rattle.queue.specs.declared.QueueAnswer.{QueueAnswer}
 use Rattle.queue.specs.declared.QueueAnswer.the-variants.{Filed as filedAll, Refused as refusedAll}
 use Rattle.queue.proofs.Taken.{taken}
 use Rattle.queue.proofs.Cuts.{stands}
-use Rattle.text.specs.Text.{written, append}
-use Rattle.text.proofs.Laws.{append-fits}
+use Rattle.text.specs.Text.{written, append, startsWith}
+use Rattle.text.proofs.Laws.{append-whole}
 use Rattle.text.proofs.Decimal.{decimal-short, decimal-most, whole-number-most}
-use Rattle.report.specs.Texts.{countsLine, refusedLine, templateIn, timeText, cardLine, slotLine, slotLines, listingOf, issueText, fate, recordLine, recordLines, explanationOf, listing, explanation}
+use Rattle.report.specs.Texts.{countsLine, refusedLine, templateIn, timeText, cardLine, slotLine, slotLines, filedListing, listingOf, issueText, fate, recordLine, recordLines, filedExplanation, explanationOf, listing, explanation}
 
 -- ---- the lines that both have
 
@@ -64,7 +63,7 @@ slot-lines s slot zero = omega arith
 slot-lines s slot (suc more) = simp length-append (omega (arith, slot-line slot (slotAt s slot), slot-lines s (slot + 1) more))
 
 listing-of : (s : Shelf) (a : QueueAnswer) → length (listingOf s a) ≤ 16384
-unfolding listingOf
+unfolding listingOf filedListing
 listing-of s (filedAll n) = simp length-append (omega (arith, slot-lines s 0 64, counts-line n))
 listing-of s (refusedAll x) = omega (arith, refused-line x)
 
@@ -129,7 +128,7 @@ accepted-short s q n e = by-length (ltb 65536 (length q)) refl
     by-length false t = ltb-false 65536 (length q) t
 
 pub explanation-fits : (q : List ℕ) → length (explanation q) ≤ 2163200
-unfolding explanation explanationOf cutOf
+unfolding explanation explanationOf filedExplanation cutOf
 explanation-fits q = by-answer (queueFiled emptyShelf q .answer) refl
   where
     by-answer : (a : QueueAnswer) → queueFiled emptyShelf q .answer ≡ a → length (explanationOf (cutOf q .records) a) ≤ 2163200
@@ -138,13 +137,10 @@ explanation-fits q = by-answer (queueFiled emptyShelf q .answer) refl
         simp length-append (omega (arith, record-lines (length q) 1 emptyShelf q (omega arith), counts-line n))
     by-answer (refusedAll x) e = omega (arith, refused-line x)
 
--- ---- so what the programs' calls leave at the start of the buffer is the whole text
+-- ---- so what is left at the start of the buffer is the whole text
 
-whole : (t out : List ℕ) → length t ≤ length out → append (written out 0) t ≡ written (t ++ drop (length t) out) (length t)
-whole t out h = simp zero-add at (append-fits (written out 0) t (omega arith))
+pub listing-whole : (q out : List ℕ) → length out ≡ 16384 → append (written out 0) (listing q) ≡ startsWith out (listing q)
+listing-whole q out e = append-whole out (listing q) (omega (arith, listing-fits q))
 
-pub listing-whole : (q out : List ℕ) → length out ≡ 16384 → append (written out 0) (listing q) ≡ written (listing q ++ drop (length (listing q)) out) (length (listing q))
-listing-whole q out e = whole (listing q) out (omega (arith, listing-fits q))
-
-pub explanation-whole : (q out : List ℕ) → length out ≡ 2163200 → append (written out 0) (explanation q) ≡ written (explanation q ++ drop (length (explanation q)) out) (length (explanation q))
-explanation-whole q out e = whole (explanation q) out (omega (arith, explanation-fits q))
+pub explanation-whole : (q out : List ℕ) → length out ≡ 2163200 → append (written out 0) (explanation q) ≡ startsWith out (explanation q)
+explanation-whole q out e = append-whole out (explanation q) (omega (arith, explanation-fits q))

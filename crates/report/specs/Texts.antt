@@ -37,11 +37,6 @@ countsLine n =
 unfoldable pub refusedLine : Refusal → List ℕ
 refusedLine x = ascii "refused " ++ ended (x .number)
 
--- the refusal of an answer that is one; of none, zeros
-abbrev pub refusalIn : QueueAnswer → Refusal
-refusalIn (filedAll n) = record { number = 0; section = 0; place = 0 }
-refusalIn (refusedAll x) = x
-
 -- ---- the listing
 
 -- the template number: octets 8-9 of section 4, of which a card has 8-34
@@ -64,9 +59,12 @@ unfoldable pub slotLines : Shelf → ℕ → ℕ → List ℕ
 slotLines s slot zero = []
 slotLines s slot (suc more) = slotLine slot (slotAt s slot) ++ slotLines s (slot + 1) more
 
-unfoldable pub listingOf : Shelf → QueueAnswer → List ℕ
-listingOf shelf (filedAll n) =
+unfoldable pub filedListing : Shelf → Counts → List ℕ
+filedListing shelf n =
     ascii "slot year month day hour minute second issue template\n" ++ (slotLines shelf 0 64 ++ countsLine n)
+
+unfoldable pub listingOf : Shelf → QueueAnswer → List ℕ
+listingOf shelf (filedAll n) = filedListing shelf n
 listingOf shelf (refusedAll refusal) = refusedLine refusal
 
 -- ---- the explanation
@@ -93,8 +91,11 @@ recordLines k s [] = []
 recordLines k s (r ∷ rs) =
     recordLine k (r .slot) (r .issue) (recordFiled s r .answer) ++ recordLines (k + 1) (recordFiled s r .shelf) rs
 
+unfoldable pub filedExplanation : List Sent → Counts → List ℕ
+filedExplanation records n = ascii "record slot issue fate\n" ++ (recordLines 1 emptyShelf records ++ countsLine n)
+
 unfoldable pub explanationOf : List Sent → QueueAnswer → List ℕ
-explanationOf records (filedAll n) = ascii "record slot issue fate\n" ++ (recordLines 1 emptyShelf records ++ countsLine n)
+explanationOf records (filedAll n) = filedExplanation records n
 explanationOf records (refusedAll refusal) = refusedLine refusal
 
 -- ---- of a queue

@@ -5,8 +5,8 @@ ghost use lib.ListN.{length, replicate};
 ghost use Rattle.octets.specs.Octets.{beAt};
 ghost use Rattle.queue.specs.Queues.{cutOf};
 ghost use Rattle.shelf.specs.Shelves.{emptyShelf};
-ghost use Rattle.text.specs.Text.{written, append};
-ghost use Rattle.report.specs.Texts.{countsLine, refusedLine, refusalIn, timeText, cardLine, slotLine, slotLines, listingOf, issueText, refusedFate, fate, recordLine, recordLines, explanationOf, listing, explanation};
+ghost use Rattle.text.specs.Text.{written, append, startsWith};
+ghost use Rattle.report.specs.Texts.{countsLine, refusedLine, timeText, cardLine, slotLine, slotLines, filedListing, listingOf, issueText, refusedFate, fate, recordLine, recordLines, filedExplanation, explanationOf, listing, explanation};
 use card::Card;
 use filing::Answer;
 use filing::Issue;
@@ -24,6 +24,27 @@ pub fn queue_buffer() -> [u8; 65537]
     [0; 65537]
 }
 
+// Room for the listing of every queue, and for the explanation of every queue.
+pub fn listing_buffer() -> [u8; 16384]
+    ensures { λ r. ⌜ (r ≡ replicate 16384 0) × (16384 ≡ length r) ⌝ }
+{
+    [0; 16384]
+}
+
+pub fn explanation_buffer() -> [u8; 2163200]
+    ensures { λ r. ⌜ (r ≡ replicate 2163200 0) × (2163200 ≡ length r) ⌝ }
+{
+    [0; 2163200]
+}
+
+// The whole listing, at the start of a buffer that is never too small.
+pub fn whole_listing(queue: &[u8], out: &mut [u8; 16384]) -> usize
+    ensures { λ r. ⌜ written (now (out .exit)) r ≡ startsWith (now (out .entry)) (listing (now (queue .entry))) ⌝ }
+{
+    listing(queue, out)
+}
+
+// As much of the listing as there is room for.
 pub fn listing(queue: &[u8], out: &mut [u8]) -> usize
     ensures { λ r. ⌜ written (now (out .exit)) r ≡ append (written (now (out .entry)) 0) (listing (now (queue .entry))) ⌝ }
 {
@@ -36,9 +57,15 @@ pub fn listing(queue: &[u8], out: &mut [u8]) -> usize
 fn list(out: &mut [u8], shelf: Shelf, answer: QueueAnswer) -> usize
     ensures { λ r. ⌜ written (now (out .exit)) r ≡ append (written (now (out .entry)) 0) (listingOf shelf answer) ⌝ }
 {
-    let QueueAnswer::Filed(counts) = answer else {
-        return refused_line(out, refusal_in(answer));
-    };
+    match answer {
+        QueueAnswer::Filed(counts) => list_filed(out, shelf, counts),
+        QueueAnswer::Refused(x) => refused_line(out, x),
+    }
+}
+
+fn list_filed(out: &mut [u8], shelf: Shelf, counts: Counts) -> usize
+    ensures { λ r. ⌜ written (now (out .exit)) r ≡ append (written (now (out .entry)) 0) (filedListing shelf counts) ⌝ }
+{
     let heading = text::words(
         out,
         0,
@@ -46,20 +73,6 @@ fn list(out: &mut [u8], shelf: Shelf, answer: QueueAnswer) -> usize
     );
     let slots = slot_lines(out, heading, shelf);
     counts_line(out, slots, counts)
-}
-
-// The refusal of an answer that is one; of none, zeros.
-fn refusal_in(answer: QueueAnswer) -> Refusal
-    ensures { λ r. ⌜ r ≡ refusalIn answer ⌝ }
-{
-    match answer {
-        QueueAnswer::Filed(_) => Refusal {
-            number: 0,
-            section: 0,
-            place: 0,
-        },
-        QueueAnswer::Refused(x) => x,
-    }
 }
 
 fn slot_lines(out: &mut [u8], at: usize, shelf: Shelf) -> usize
@@ -131,7 +144,14 @@ fn refused_line(out: &mut [u8], refusal: Refusal) -> usize
     text::number_then(out, a, refusal.number as u64, b'\n')
 }
 
-// The queue is filed once for the counts, and then each record again for its line.
+// The whole explanation, at the start of a buffer that is never too small.
+pub fn whole_explanation(queue: &[u8], out: &mut [u8; 2163200]) -> usize
+    ensures { λ r. ⌜ written (now (out .exit)) r ≡ startsWith (now (out .entry)) (explanation (now (queue .entry))) ⌝ }
+{
+    explanation(queue, out)
+}
+
+// As much of the explanation as there is room for. The queue is filed once for the counts, and then each record again for its line.
 pub fn explanation(queue: &[u8], out: &mut [u8]) -> usize
     ensures { λ r. ⌜ written (now (out .exit)) r ≡ append (written (now (out .entry)) 0) (explanation (now (queue .entry))) ⌝ }
 {
@@ -143,9 +163,15 @@ pub fn explanation(queue: &[u8], out: &mut [u8]) -> usize
 fn explain(out: &mut [u8], queue: &[u8], answer: QueueAnswer) -> usize
     ensures { λ r. ⌜ written (now (out .exit)) r ≡ append (written (now (out .entry)) 0) (explanationOf (cutOf (now (queue .entry)) .records) answer) ⌝ }
 {
-    let QueueAnswer::Filed(counts) = answer else {
-        return refused_line(out, refusal_in(answer));
-    };
+    match answer {
+        QueueAnswer::Filed(counts) => explain_filed(out, queue, counts),
+        QueueAnswer::Refused(x) => refused_line(out, x),
+    }
+}
+
+fn explain_filed(out: &mut [u8], queue: &[u8], counts: Counts) -> usize
+    ensures { λ r. ⌜ written (now (out .exit)) r ≡ append (written (now (out .entry)) 0) (filedExplanation (cutOf (now (queue .entry)) .records) counts) ⌝ }
+{
     let heading = text::words(out, 0, b"record slot issue fate\n");
     let records = record_lines(out, heading, queue);
     counts_line(out, records, counts)

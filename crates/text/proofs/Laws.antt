@@ -5,12 +5,13 @@ use mathlib.Core.Bool.{Bool, true, false, cond}
 use mathlib.Core.List.{List, [], _∷_, _++_}
 use Prim.Native.Nat.{ℕ, suc, _+_, _-_, _≤_}
 use native.Mathlib.Omega.{arith}
+use native.Mathlib.Nat.{zero-add}
 use native.Mathlib.Numerals.{add-one}
 use lib.Dec.{ltb}
-use lib.ListN.{length, take, drop, set, length-set}
+use lib.ListN.{length, take, drop, set, length-set, length-append}
 use lib.Seq.{sets, sets-eq, take-nil}
 use borrow.Author.Tests.{lt-ltb, le-ltb, ltb-true, ltb-false}
-use Rattle.text.specs.Text.{Written, written, one, append}
+use Rattle.text.specs.Text.{Written, written, one, append, startsWith}
 
 -- two texts, one after the other
 pub append-both : (x : Written) (t u : List ℕ) → append x (t ++ u) ≡ append (append x t) u
@@ -89,3 +90,12 @@ append-cut x (c ∷ t) = by-room (ltb (x .at) (length (x .octets))) refl (append
     by-room false e rest =
         let none : length (x .octets) - x .at ≡ 0 = omega (arith, ltb-false (x .at) (length (x .octets)) e) in
         rw none (append-full x (c ∷ t) (ltb-false (x .at) (length (x .octets)) e))
+
+-- a text that fits is the whole of it
+pub append-whole : (out t : List ℕ) → length t ≤ length out → append (written out 0) t ≡ startsWith out t
+unfolding startsWith
+append-whole out t h = simp zero-add at (append-fits (written out 0) t (omega arith))
+
+pub starts-within : (out t : List ℕ) {y : Written} → y ≡ startsWith out t → y .at ≤ length (y .octets)
+unfolding startsWith
+starts-within out t e = rw e (simp length-append (omega arith))

@@ -7,7 +7,7 @@ use Prim.Native.String.{String, [] as ε, _∷_ as _⊲_}
 use mathlib.Core.List.{List, [], _∷_, _++_}
 use lib.Dec.{ltb}
 use lib.IntN.{ℤ, pos, negsuc}
-use lib.ListN.{length, set}
+use lib.ListN.{length, drop, set}
 
 -- a lent buffer, and after how many of its octets the text stands that is written so far
 pub record Written : Type 0 where
@@ -25,6 +25,10 @@ one x c = cond (ltb (x .at) (length (x .octets))) (written (set (x .octets) (x .
 unfoldable pub append : Written → List ℕ → Written
 append x [] = x
 append x (c ∷ t) = append (one x c) t
+
+-- a text at the start of a buffer that has room for it, and behind it what was there before
+unfoldable pub startsWith : List ℕ → List ℕ → Written
+startsWith out t = written (t ++ drop (length t) out) (length t)
 
 -- the octets of words in ASCII
 abbrev pub ascii : String → List ℕ

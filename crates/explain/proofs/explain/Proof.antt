@@ -2,24 +2,22 @@
 -- Assumes nothing.
 use borrow.Author.Needs.{needs}
 use mathlib.Core.Path.{sym}
-use native.Mathlib.Omega.{arith}
 use lib.Seq.{length-take-le}
-use Rattle.text.proofs.Laws.{ends-within}
+use Rattle.text.proofs.Laws.{starts-within}
 use Rattle.explain.proofs.explain.Statement.{statement}
 use Rattle.explain.proofs.explain.Tie as tie
 
 array-share-prefix-text : tie.Need-array-share-prefix-text
-array-share-prefix-text c = ends-within _ _ (c .before .explanation .ensures) (omega arith)
+array-share-prefix-text c = starts-within _ _ (c .whole-explanation .ensures)
 
 slice-aggregate-print : tie.Need-slice-aggregate-print
-slice-aggregate-print c = sym (length-take-le _ _ (ends-within _ _ (c .before .before .explanation .ensures) (omega arith)))
+slice-aggregate-print c = sym (length-take-le _ _ (starts-within _ _ (c .before .whole-explanation .ensures)))
 
 pub explain-spec : {M : Type 1} → statement M
 explain-spec =
     tie.close
     (tie.spec
     (λ c κs. search needs)
-    (λ c. search needs)
     (λ c κs. search needs)
     array-share-prefix-text
     slice-aggregate-print

@@ -1,0 +1,25 @@
+-- `explain`: what is printed is what was written into the room.
+-- Assumes nothing.
+use borrow.Author.Needs.{needs}
+use mathlib.Core.Path.{sym}
+use lib.Seq.{length-take-le}
+use Rattle.text.proofs.Laws.{starts-within}
+use Rattle.cases.proofs.queues.explain.Statement.{statement}
+use Rattle.cases.proofs.queues.explain.Tie as tie
+
+array-share-prefix-text : tie.Need-array-share-prefix-text
+array-share-prefix-text c = starts-within _ _ (c .whole-explanation .ensures)
+
+slice-aggregate-print-short : tie.Need-slice-aggregate-print-short
+slice-aggregate-print-short c = sym (length-take-le _ _ (starts-within _ _ (c .before .whole-explanation .ensures)))
+
+pub explain-spec : {M : Type 1} → statement M
+explain-spec =
+    tie.close
+    (tie.spec
+    (λ c κs. search needs)
+    (λ c κs. search needs)
+    array-share-prefix-text
+    slice-aggregate-print-short
+    (λ c κs. search needs)
+    (λ c. search needs))
