@@ -1,0 +1,72 @@
+-- Demand 1: "Each public entry takes every input, ends, and answers or refuses with a number from document 01. A refusal changes no shelf
+-- and no lent buffer." docs/ENTRIES.md lists the entries.
+-- Assumes nothing.
+
+-- "Each public entry takes every input, ..": a theorem for each entry of each crate.
+pub use Rattle.demands.proofs.EveryInput
+-- ".. ends, ..": each meets its contract, which is so only of code that ends.
+pub use Rattle.demands.proofs.EveryEntryEnds
+-- ".. and answers ..": for each answer type, any two answers that the contract allows for an input are one, with what was lent.
+pub use Rattle.demands.proofs.OneAnswer.{one-identification, one-grid, one-product, one-packing, one-data, one-field, one-unpacking, one-filing, one-answer, one-number, one-signed, one-time, one-text}
+-- ".. or refuses with a number from document 01.": its table lists the number for the section, and the place is 0 except with 8.
+pub use Rattle.demands.proofs.RefusalNumbers.{identification-refuses, grid-refuses, product-refuses, packing-refuses, data-refuses, unpacking-refuses, field-refuses, filing-refuses, record-refuses, queue-refuses}
+-- "A refusal changes no shelf and no lent buffer.": the theorems of this file.
+use Prim.Native.Nat.{ℕ}
+use mathlib.Core.Path.{_≡_, refl, sym, ap, _∙_}
+use mathlib.Core.List.{List}
+use mathlib.Core.Bool.{Bool, true, false, cond}
+use native.Mathlib.Omega.{arith}
+use lib.Dec.{eqb}
+use lib.ListN.{drop}
+use Rattle.layout.specs.Outcomes.{Outcome}
+use Rattle.layout.specs.declared.Refusal.{Refusal}
+use Rattle.packing.specs.Packed.{unpacked}
+use Rattle.packing.specs.Section5.{valuesAt, bitsAt}
+use Rattle.packing.specs.Unpacking.{toldUnpacked, rowBy, rowAfter, Unpacks}
+use Rattle.packing.specs.declared.Unpacked.the-variants.{Refused as refusedUnpacking}
+use Rattle.shelf.specs.Shelves.{putOf}
+use Rattle.shelf.specs.declared.Shelf.{Shelf}
+use Rattle.filing.specs.Filing.{Filing, refusedFiling, accepted, filingOf, keptIf, filedBy, filedOf}
+use Rattle.filing.specs.declared.Issue.{Issue}
+use Rattle.filing.specs.declared.Answer.the-variants.{Refused}
+use Rattle.filing.specs.declared.Filed.{Filed}
+use Rattle.queue.specs.Queues.{Sent, recordFiling, recordFiled, cutOf, recordsFiled, fromStart, queueRefusal, acceptedQueue, refusedQueue, queueFiled}
+use Rattle.queue.specs.declared.QueueAnswer.the-variants.{Refused as refusedAll}
+
+-- "A refusal changes no shelf ..": filing a field, by value and lent; a record of a queue; a queue.
+
+not-refused : (t : Bool) (x : Refusal) → keptIf t ≡ Refused x → ⊥
+not-refused true x e = let z : _≡_ {A = ℕ} 0 1 = cc in omega arith
+not-refused false x e = let z : _≡_ {A = ℕ} 0 1 = cc in omega arith
+
+shelf-stays : (shelf : Shelf) (slot : ℕ) (f : Filing) (x : Refusal) → filedBy shelf slot f .answer ≡ Refused x → filedBy shelf slot f .shelf ≡ shelf
+unfolding filedBy
+shelf-stays shelf slot (refusedFiling number section place) x e = refl
+shelf-stays shelf slot (accepted card) x e = absurd (not-refused (putOf shelf slot card .changed) x e)
+
+pub filing-keeps-shelf : (shelf : Shelf) (slot : ℕ) (issue : Issue) (s1 s3 s4 s5 s7 : List ℕ) (x : Refusal) → filedOf shelf slot issue s1 s3 s4 s5 s7 .answer ≡ Refused x → filedOf shelf slot issue s1 s3 s4 s5 s7 .shelf ≡ shelf
+unfolding filedOf
+filing-keeps-shelf shelf slot issue s1 s3 s4 s5 s7 x e = shelf-stays shelf slot (filingOf slot issue s1 s3 s4 s5 s7) x e
+
+pub filing-keeps-lent-shelf : (shelf later : Shelf) (slot : ℕ) (issue : Issue) (s1 s3 s4 s5 s7 : List ℕ) (x : Refusal) → record { shelf = later; answer = Refused x } ≡ filedOf shelf slot issue s1 s3 s4 s5 s7 → later ≡ shelf
+filing-keeps-lent-shelf shelf later slot issue s1 s3 s4 s5 s7 x e =
+    ap (λ (y : Filed). y .shelf) e ∙ filing-keeps-shelf shelf slot issue s1 s3 s4 s5 s7 x (sym (ap (λ (y : Filed). y .answer) e))
+
+pub record-keeps-shelf : (shelf : Shelf) (r : Sent) (x : Refusal) → recordFiled shelf r .answer ≡ Refused x → recordFiled shelf r .shelf ≡ shelf
+unfolding recordFiled
+record-keeps-shelf shelf r x e = shelf-stays shelf (r .slot) (recordFiling r) x e
+
+pub queue-keeps-shelf : (shelf : Shelf) (q : List ℕ) (x : Refusal) → queueFiled shelf q .answer ≡ refusedAll x → queueFiled shelf q .shelf ≡ shelf
+unfolding queueFiled
+queue-keeps-shelf shelf q x e = by-refusal (eqb (queueRefusal q) 0) e
+  where
+    by-refusal : (t : Bool) → cond t (acceptedQueue (recordsFiled (fromStart shelf) (cutOf q .records))) (refusedQueue shelf (queueRefusal q)) .answer ≡ refusedAll x → cond t (acceptedQueue (recordsFiled (fromStart shelf) (cutOf q .records))) (refusedQueue shelf (queueRefusal q)) .shelf ≡ shelf
+    by-refusal true e = let z : _≡_ {A = ℕ} 0 1 = cc in absurd (omega arith)
+    by-refusal false e = refl
+
+-- ".. and no lent buffer.": `unpack` is the one entry that refuses and may change a buffer. Sections and queues are lent to be read only.
+
+pub unpacking-keeps-row : (five seven row later : List ℕ) (x : Refusal) → Unpacks five seven row (refusedUnpacking x) later → later ≡ row
+unfolding toldUnpacked rowAfter
+unpacking-keeps-row five seven row later x p =
+    p .leaves ∙ ap (λ (o : Outcome). rowBy o row (unpacked (bitsAt five) (valuesAt five) (drop 5 seven))) (sym (p .answers))
