@@ -9,7 +9,7 @@ use mathlib.Core.Path.{_≡_, refl, sym, ap, subst, _∙_}
 use mathlib.Core.Bool.{Bool}
 use mathlib.Core.Logic.{_↔_}
 use mathlib.Core.List.{List, [], _∷_}
-use lib.ListN.{length, getD, drop}
+use lib.ListN.{length, getD}
 use Rattle.octets.specs.Octets.{part}
 use Rattle.layout.specs.Fields.{Value, after, valuesOf, octetsOf}
 use Rattle.layout.specs.Outcomes.{Outcome, refused, read}
@@ -23,14 +23,14 @@ use Rattle.identification.specs.declared.Template.{Template as Template₁}
 use Rattle.identification.proofs.AcceptedExactlyWhen.{accepted-exactly-when as exactly₁, accepted-follows as follows₁}
 use Rattle.identification.proofs.FieldsCoverOnce.{covered as covered₁}
 use Rattle.grid.specs.Section3 as three
-use Rattle.grid.specs.Accepted.{Follows₃, NoList}
+use Rattle.grid.specs.Accepted.{Follows₃}
 use Rattle.grid.specs.declared.Answer.{Answer as Answer₃}
 use Rattle.grid.specs.declared.Answer.the-variants.{Read as Read₃}
 use Rattle.grid.specs.declared.Grid.{Grid}
 use Rattle.grid.specs.declared.Template.{Template as Template₃}
 use Rattle.grid.proofs.AcceptedExactlyWhen.{accepted-exactly-when as exactly₃, accepted-follows as follows₃, all-fits}
 use Rattle.grid.proofs.FieldsCoverOnce.{covered as covered₃}
-use Rattle.grid.proofs.ListShown.{those-very-octets, without-a-list, refused-shows-none}
+use Rattle.grid.proofs.ListShown.{those-very-octets, refused-shows-none}
 use Rattle.product.specs.Section4 as four
 use Rattle.product.specs.Views.{rangeOf, membersOf, coordinatesOf, strung}
 use Rattle.product.specs.Accepted.{Follows₄}
@@ -40,7 +40,7 @@ use Rattle.product.specs.declared.Product.{Product}
 use Rattle.product.specs.declared.PartKind.{PartKind}
 use Rattle.product.proofs.AcceptedExactlyWhen.{accepted-exactly-when as exactly₄, accepted-follows as follows₄, follows-total}
 use Rattle.product.proofs.FieldsCoverOnce.{covered as covered₄}
-use Rattle.product.proofs.ViewsAreTheLayouts.{views-shown, range-whole, no-range, no-members, refused-nothing}
+use Rattle.product.proofs.ViewsAreTheLayouts.{views-shown, range-whole, no-range, refused-nothing}
 use Rattle.packing.specs.Packed.{bitsFrom, packedAt, packedFrom, unpacked}
 use Rattle.packing.specs.Section5 as five
 use Rattle.packing.specs.Section7 as seven

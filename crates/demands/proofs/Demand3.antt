@@ -18,7 +18,8 @@ use Rattle.queue.specs.Queues.{Sent, recordFiling, recordsFiled, fromStart, cut
 use Rattle.queue.specs.declared.QueueFiled.{QueueFiled}
 use Rattle.queue.specs.History.{Field, History, start, file, queue, join, shelfOf, acceptedAt, acceptedIn, acceptedOf}
 use Rattle.queue.proofs.Histories.{kept, same-shelf}
-use Rattle.queue.proofs.QueueIsJoin.{queue-joins, as-if-never-sent}
+use Rattle.queue.proofs.QueueIsJoin.{queue-joins}
+use Rattle.queue.proofs.RecordsAsCards.{as-if-never-sent}
 
 -- ---- "After any fields and queues filed and any shelves joined": what the entries make is the end of a history
 

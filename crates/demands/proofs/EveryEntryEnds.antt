@@ -123,6 +123,14 @@ use Rattle.text.proofs.signed.Statement as text-signed
 use Rattle.text.proofs.signed.Met as text-signed-met
 use Rattle.report.proofs.queue_buffer.Statement as report-queue-buffer
 use Rattle.report.proofs.queue_buffer.Met as report-queue-buffer-met
+use Rattle.report.proofs.listing_buffer.Statement as report-listing-buffer
+use Rattle.report.proofs.listing_buffer.Met as report-listing-buffer-met
+use Rattle.report.proofs.explanation_buffer.Statement as report-explanation-buffer
+use Rattle.report.proofs.explanation_buffer.Met as report-explanation-buffer-met
+use Rattle.report.proofs.whole_listing.Statement as report-whole-listing
+use Rattle.report.proofs.whole_listing.Met as report-whole-listing-met
+use Rattle.report.proofs.whole_explanation.Statement as report-whole-explanation
+use Rattle.report.proofs.whole_explanation.Met as report-whole-explanation-met
 use Rattle.report.proofs.listing.Statement as report-listing
 use Rattle.report.proofs.listing.Met as report-listing-met
 use Rattle.report.proofs.explanation.Statement as report-explanation
@@ -342,6 +350,18 @@ text-signed-ends = text-signed-met.met
 
 pub report-queue-buffer-ends : {M : Type 1} → report-queue-buffer.statement M
 report-queue-buffer-ends = report-queue-buffer-met.met
+
+pub report-listing-buffer-ends : {M : Type 1} → report-listing-buffer.statement M
+report-listing-buffer-ends = report-listing-buffer-met.met
+
+pub report-explanation-buffer-ends : {M : Type 1} → report-explanation-buffer.statement M
+report-explanation-buffer-ends = report-explanation-buffer-met.met
+
+pub report-whole-listing-ends : {M : Type 1} → report-whole-listing.statement M
+report-whole-listing-ends = report-whole-listing-met.met
+
+pub report-whole-explanation-ends : {M : Type 1} → report-whole-explanation.statement M
+report-whole-explanation-ends = report-whole-explanation-met.met
 
 pub report-listing-ends : {M : Type 1} → report-listing.statement M
 report-listing-ends = report-listing-met.met

@@ -71,6 +71,10 @@ use Rattle.text.proofs.number.Reads as text-number
 use Rattle.text.proofs.number_then.Reads as text-number-then
 use Rattle.text.proofs.signed.Reads as text-signed
 use Rattle.report.proofs.queue_buffer.Reads as report-queue-buffer
+use Rattle.report.proofs.listing_buffer.Reads as report-listing-buffer
+use Rattle.report.proofs.explanation_buffer.Reads as report-explanation-buffer
+use Rattle.report.proofs.whole_listing.Reads as report-whole-listing
+use Rattle.report.proofs.whole_explanation.Reads as report-whole-explanation
 use Rattle.report.proofs.listing.Reads as report-listing
 use Rattle.report.proofs.explanation.Reads as report-explanation
 use Rattle.standard.proofs.read_all.Reads as standard-read-all
@@ -287,6 +291,18 @@ text-signed-takes lent given = tt
 
 pub report-queue-buffer-takes : TakesEvery report-queue-buffer.Asked
 report-queue-buffer-takes lent given = tt
+
+pub report-listing-buffer-takes : TakesEvery report-listing-buffer.Asked
+report-listing-buffer-takes lent given = tt
+
+pub report-explanation-buffer-takes : TakesEvery report-explanation-buffer.Asked
+report-explanation-buffer-takes lent given = tt
+
+pub report-whole-listing-takes : TakesEvery report-whole-listing.Asked
+report-whole-listing-takes lent given = tt
+
+pub report-whole-explanation-takes : TakesEvery report-whole-explanation.Asked
+report-whole-explanation-takes lent given = tt
 
 pub report-listing-takes : TakesEvery report-listing.Asked
 report-listing-takes lent given = tt

@@ -5,7 +5,7 @@ use mathlib.Core.List.{List}
 use mathlib.Core.Bool.{Bool, true, false, not, cond}
 use lib.ListN.{getD}
 use lib.Dec.{ltb, eqb}
-use lib.IntN.{ℤ, pos, natAbs}
+use lib.IntN.{natAbs}
 use Rattle.octets.specs.Octets.{part}
 use Rattle.layout.specs.Fields.{Value, none, missing, is, wholeIn, naturalIn}
 use Rattle.field.specs.Field.{FieldOutcome, refusedField, readField, fieldOutcome}

@@ -4,7 +4,7 @@ use mathlib.Core.Path.{_≡_, refl, ap, sym, _∙_}
 use mathlib.Core.List.{List}
 use Prim.Native.Nat.{ℕ, _+_}
 use lib.ListN.{getD}
-use lib.IntN.{ℤ, pos, natAbs}
+use lib.IntN.{natAbs}
 use Rattle.layout.specs.Fields.{Value, none, missing, is, naturalIn}
 use Rattle.layout.specs.Missing.{in32, inSigned}
 use Rattle.layout.specs.Time.{timeIn}

@@ -5,26 +5,24 @@ use native.Mathlib.Omega.{arith}
 use mathlib.Core.Path.{_≡_, refl, ap, ap₂, sym, _∙_}
 use mathlib.Core.Bool.{Bool, true, false, true≢false, cond}
 use mathlib.Core.List.{List, [], _∷_, _++_}
-use lib.Dec.{ltb, eqb}
+use lib.Dec.{ltb}
 use lib.ListN.{length, take, drop, length-drop, length-append}
 use lib.Seq.{take-append-le, drop-append-le}
-use borrow.Author.Tests.{le-ltb, ltb-false}
+use borrow.Author.Tests.{le-ltb}
 use Rattle.shelf.specs.declared.Shelf.{Shelf}
 use Rattle.filing.specs.declared.Answer.{Answer}
 use Rattle.filing.specs.declared.Answer.the-variants.{Kept, Passed, Refused}
 use Rattle.queue.specs.Numbers.{before, groups, bounded, numberOf}
-use Rattle.queue.specs.Records.{onward, bodied, issueFrom, recordOf}
-use Rattle.queue.specs.Queues.{Sent, Cut, between, recordIn, cutOf, recordFiled, counted, oneMore, recordsFiled, fromStart, queueRefusal, refusedQueue, acceptedQueue, queueFiled}
-use Rattle.queue.specs.declared.Number.{Number}
-use Rattle.queue.specs.declared.Number.the-variants.{Found, Malformed}
+use Rattle.queue.specs.Records.{recordOf}
+use Rattle.queue.specs.Queues.{Sent, Cut, recordIn, cutOf, recordFiled, counted, oneMore, recordsFiled, fromStart, acceptedQueue, queueFiled}
+use Rattle.queue.specs.declared.Number.the-variants.{Found}
 use Rattle.queue.specs.declared.Head.{Head}
 use Rattle.queue.specs.declared.Record.{Record}
 use Rattle.queue.specs.declared.Record.the-variants.{Whole, Broken}
 use Rattle.queue.specs.declared.Counts.{Counts}
 use Rattle.queue.specs.declared.Progress.{Progress}
-use Rattle.queue.specs.declared.QueueAnswer.the-variants.{Filed as filedAll, Refused as refusedAll}
-use Rattle.queue.specs.declared.QueueFiled.{QueueFiled}
 use Rattle.queue.proofs.OneSpelling.{behind, of-groups}
+use Rattle.queue.proofs.FiledQueues.{files, filed}
 use Rattle.queue.proofs.Taken.{taken}
 use Rattle.queue.proofs.Cuts.{stands, ends, cut-record, cut-broken, cut-end}
 
@@ -144,36 +142,6 @@ counts-before rs p = ap (λ (k : Counts). recordsFiled (record { shelf = p .shel
         let l : p .counts .passed ≡ p .counts .passed + 0 = omega arith in
         let m : p .counts .refused ≡ p .counts .refused + 0 = omega arith in
         λ i. record { kept = k i; passed = l i; refused = m i }
-
--- ---- a queue that is filed
-
-record Files (q : List ℕ) (s : Shelf) (p : Progress) : Type 0 where
-  short : length q ≤ 65536
-  whole : cutOf q .whole ≡ true
-  records : recordsFiled (fromStart s) (cutOf q .records) ≡ p
-
-files : (q : List ℕ) (s : Shelf) (p : Progress) → queueFiled s q ≡ acceptedQueue p → Files q s p
-unfolding queueFiled queueRefusal
-files q s p e = by-length (ltb 65536 (length q)) refl (cutOf q .whole) refl e
-  where
-    refused-files : (number : ℕ) → refusedQueue s number ≡ acceptedQueue p → Files q s p
-    refused-files number e =
-        let answers : refusedAll (record { number = number; section = 0; place = 0 }) ≡ filedAll (p .counts) = ap (λ (x : QueueFiled). x .answer) e in
-        let z : _≡_ {A = ℕ} 0 1 = cc in absurd (omega arith)
-
-    by-length : (t : Bool) → ltb 65536 (length q) ≡ t → (w : Bool) → cutOf q .whole ≡ w
-        → cond (eqb (cond t 2 (cond w 0 19)) 0) (acceptedQueue (recordsFiled (fromStart s) (cutOf q .records))) (refusedQueue s (cond t 2 (cond w 0 19))) ≡ acceptedQueue p → Files q s p
-    by-length true t w f e = refused-files 2 e
-    by-length false t false f e = refused-files 19 e
-    by-length false t true f e =
-        let shelf-is : recordsFiled (fromStart s) (cutOf q .records) .shelf ≡ p .shelf = ap (λ (x : QueueFiled). x .shelf) e in
-        let answer-is : filedAll (recordsFiled (fromStart s) (cutOf q .records) .counts) ≡ filedAll (p .counts) = ap (λ (x : QueueFiled). x .answer) e in
-        let counts-is : recordsFiled (fromStart s) (cutOf q .records) .counts ≡ p .counts = cc in
-        record { short = ltb-false 65536 (length q) t; whole = f; records = λ i. record { shelf = shelf-is i; counts = counts-is i } }
-
-filed : (q : List ℕ) (s : Shelf) (p : Progress) → Files q s p → queueFiled s q ≡ acceptedQueue p
-unfolding queueFiled queueRefusal
-filed q s p f = rw (le-ltb 65536 (length q) (f .short), f .whole) (ap acceptedQueue (f .records))
 
 -- Two queues one after the other are filed as their octets one behind the other are, where these are not too many for a queue.
 pub two-queues : (p q : List ℕ) (s : Shelf) (a b : Progress) → queueFiled s p ≡ acceptedQueue a → queueFiled (a .shelf) q ≡ acceptedQueue b → length (p ++ q) ≤ 65536

@@ -1,8 +1,9 @@
 -- Kept, passed and refused: each record counts once, so that the three sum to the records, and it counts as its slot was before and after.
 -- Assumes nothing.
-use Prim.Native.Nat.{ℕ, suc, _+_}
+use Prim.Native.Nat.{ℕ, _+_}
+use native.Mathlib.Nat.{zero-add}
 use native.Mathlib.Omega.{arith}
-use mathlib.Core.Path.{_≡_, refl, ap, _∙_}
+use mathlib.Core.Path.{_≡_, refl, sym, ap, _∙_}
 use mathlib.Core.List.{List, [], _∷_}
 use lib.ListN.{length, length-set}
 use Rattle.shelf.specs.declared.Shelf.{Shelf}
@@ -10,9 +11,10 @@ use Rattle.filing.specs.Filing.{Filing, refusedFiling, accepted, filedBy}
 use Rattle.filing.specs.declared.Answer.{Answer}
 use Rattle.filing.specs.declared.Answer.the-variants.{Kept, Passed, Refused}
 use Rattle.filing.proofs.SaidOfTheSlots.{Said, said}
-use Rattle.queue.specs.Queues.{Sent, recordFiling, recordFiled, counted, total, oneMore, recordsFiled}
+use Rattle.queue.specs.Queues.{Sent, recordFiling, recordFiled, cutOf, counted, total, oneMore, recordsFiled, fromStart, acceptedQueue, queueFiled}
 use Rattle.queue.specs.declared.Counts.{Counts}
 use Rattle.queue.specs.declared.Progress.{Progress}
+use Rattle.queue.proofs.FiledQueues.{files}
 
 pub one-more : (n : Counts) (a : Answer) → total (counted n a) ≡ total n + 1
 one-more n Kept = omega arith
@@ -59,3 +61,14 @@ pub all-said : (rs : List Sent) (s : Shelf) → length (s .slots) ≡ 64 → All
 unfolding AllSaid recordFiled
 all-said [] s long = tt
 all-said (r ∷ rs) s long = (said s (r .slot) (recordFiling r) long, all-said rs (recordFiled s r .shelf) (stays-long s (r .slot) (recordFiling r) long))
+
+-- ---- so of a queue that is filed: its counts are those of the records' answers, they sum to the records, and each answer is as the slot was
+-- before and after
+
+pub queue-counts : (q : List ℕ) (s : Shelf) (p : Progress) → queueFiled s q ≡ acceptedQueue p
+    → (p .counts ≡ countedAll (fromStart s .counts) (answersOf s (cutOf q .records))) × (total (p .counts) ≡ length (cutOf q .records)) × (length (s .slots) ≡ 64 → AllSaid s (cutOf q .records))
+queue-counts q s p e =
+    let rs = cutOf q .records in
+    let f = files q s p e in
+    let counts = ap (λ (x : Progress). x .counts) (f .records) in
+    (sym counts ∙ counts-are rs (fromStart s), sym (ap total counts) ∙ sum rs (fromStart s) ∙ zero-add (length rs), all-said rs s)

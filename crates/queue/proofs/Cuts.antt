@@ -1,8 +1,8 @@
 -- How a queue is cut, record by record: what stands behind the first record is cut as if it were a queue of its own.
 -- Assumes nothing.
-use Prim.Native.Nat.{ℕ, zero, suc, _+_, _≤_, _<_}
+use Prim.Native.Nat.{ℕ, zero, suc, _+_, _≤_}
 use native.Mathlib.Omega.{arith}
-use mathlib.Core.Path.{_≡_, refl, ap, sym, _∙_}
+use mathlib.Core.Path.{_≡_, refl, ap, _∙_}
 use mathlib.Core.Bool.{Bool, true, false, cond}
 use mathlib.Core.List.{List, [], _∷_}
 use lib.Dec.{ltb, eqb}
@@ -10,7 +10,7 @@ use lib.ListN.{length, drop, length-drop}
 use borrow.Author.Tests.{eq-eqb, ne-eqb, ltb-false}
 use Rattle.queue.specs.Numbers.{numberOf}
 use Rattle.queue.specs.Records.{onward, bodied, issueFrom, recordOf}
-use Rattle.queue.specs.Queues.{Sent, Cut, recordIn, ahead, atEnd, cutIn, cutOf}
+use Rattle.queue.specs.Queues.{Cut, recordIn, ahead, atEnd, cutIn, cutOf}
 use Rattle.queue.specs.declared.Number.{Number}
 use Rattle.queue.specs.declared.Number.the-variants.{Found, Malformed}
 use Rattle.queue.specs.declared.Head.{Head}
@@ -76,11 +76,11 @@ stands s h e = by-first (numberOf s) refl e
     by-first (Found slot a) f e = by-second slot a f (numberOf (drop a s)) refl e
 
 -- so it has octets, and ends within them
-pub record Ends (s : List ℕ) (h : Head) : Type 0 where
+pub record Spans (s : List ℕ) (h : Head) : Type 0 where
   pub some : 1 ≤ h .end
   pub inside : h .end ≤ length s
 
-pub ends : (s : List ℕ) (h : Head) → recordOf s ≡ Whole h → Ends s h
+pub ends : (s : List ℕ) (h : Head) → recordOf s ≡ Whole h → Spans s h
 ends s h e =
     let r = stands s h e in
     let least = taken _ _ _ (r .first) .some in

@@ -6,21 +6,21 @@ use Prim.Native.Nat.{ℕ, _<_, _≤_}
 use native.Mathlib.Omega.{arith}
 use mathlib.Core.Path.{_≡_, refl, sym, ap, ap₂, subst, _∙_}
 use mathlib.Core.List.{List, [], _∷_, _++_, List·Memᴰ, append-nil, append-assoc}
-use mathlib.Core.Bool.{Bool, true, false}
+use mathlib.Core.Bool.{Bool, true, false, cond}
 use lib.Dec.{eqb, ltb}
 use borrow.Author.Tests.{ltb-false, ne-eqb}
 use Rattle.card.specs.declared.Card.{Card}
 use Rattle.shelf.specs.Shelves.{slotAt, joinShelf}
 use Rattle.shelf.specs.declared.Shelf.{Shelf}
-use Rattle.shelf.specs.History.{Keeps, Tidy, History as Cards, start as noCards, put, join as joinCards, shelfOf as shelfOfCards, acceptedAt as acceptedCards}
+use Rattle.shelf.specs.History.{Keeps, Tidy, fileAll, History as Cards, start as noCards, put, join as joinCards, shelfOf as shelfOfCards, acceptedAt as acceptedCards}
 use Rattle.shelf.proofs.Histories.{tidy as tidy-cards, kept as kept-cards, same-shelf as same-cards}
 use Rattle.filing.specs.Filing.{Filing, refusedFiling, accepted, filingOf, filedBy, filedOf}
 use Rattle.filing.specs.declared.Issue.{Issue}
 use Rattle.queue.specs.Bodies.{bodyOf}
-use Rattle.queue.specs.Queues.{Sent, bodyFiling, recordFiling, recordFiled, oneMore, recordsFiled, fromStart, cutOf, queueRefusal, queueFiled}
-use Rattle.queue.specs.declared.Progress.{Progress}
+use Rattle.queue.specs.Queues.{Sent, bodyFiling, recordFiling, fromStart, cutOf, queueRefusal, queueFiled}
 use Rattle.queue.specs.declared.Body.{Body}
 use Rattle.queue.specs.declared.Body.the-variants.{Five, NotFive}
+use Rattle.queue.proofs.RecordsAsCards.{cardBefore, cardsIn, one-card, records-are-cards}
 use Rattle.queue.specs.History.{Field, History, start, file, queue, join, shelfOf, acceptedOf, acceptedIn, recordsOf, acceptedAt}
 
 -- ---- a history of fields and queues as one of cards
@@ -28,71 +28,81 @@ use Rattle.queue.specs.History.{Field, History, start, file, queue, join
 abbrev filingOfField : ℕ → Field → Filing
 filingOfField slot x = filingOf slot (x .issue) (x .s1) (x .s3) (x .s4) (x .s5) (x .s7)
 
-ofFiling : ℕ → Filing → Cards → Cards
-ofFiling slot (refusedFiling number section place) h = h
-ofFiling slot (accepted card) h = put slot card h
-
-ofRecords : List Sent → Cards → Cards
-ofRecords [] h = h
-ofRecords (r ∷ rs) h = ofRecords rs (ofFiling (r .slot) (recordFiling r) h)
+-- cards put one after the other
+ofCards : List (ℕ × Card) → Cards → Cards
+ofCards [] h = h
+ofCards (e ∷ es) h = ofCards es (put (e .0) (e .1) h)
 
 ofHistory : History → Cards
 ofHistory start = noCards
-ofHistory (file slot x h) = ofFiling slot (filingOfField slot x) (ofHistory h)
-ofHistory (queue q h) = ofRecords (recordsOf q) (ofHistory h)
+ofHistory (file slot x h) = ofCards (cardBefore slot (filingOfField slot x) []) (ofHistory h)
+ofHistory (queue q h) = ofCards (cardsIn (recordsOf q)) (ofHistory h)
 ofHistory (join g h) = joinCards (ofHistory g) (ofHistory h)
 
 -- ---- the same shelf
 
-filing-shelf : (slot : ℕ) (f : Filing) (h : Cards) → filedBy (shelfOfCards h) slot f .shelf ≡ shelfOfCards (ofFiling slot f h)
-unfolding filedBy ofFiling shelfOfCards
-filing-shelf slot (refusedFiling number section place) h = refl
-filing-shelf slot (accepted card) h = refl
+cards-shelf : (es : List (ℕ × Card)) (h : Cards) → fileAll es (shelfOfCards h) ≡ shelfOfCards (ofCards es h)
+unfolding fileAll ofCards shelfOfCards
+cards-shelf [] h = refl
+cards-shelf (e ∷ es) h = cards-shelf es (put (e .0) (e .1) h)
 
-records-shelf : (rs : List Sent) (p : Progress) (h : Cards) → p .shelf ≡ shelfOfCards h → recordsFiled p rs .shelf ≡ shelfOfCards (ofRecords rs h)
-unfolding recordsFiled recordFiled ofRecords
-records-shelf [] p h e = e
-records-shelf (r ∷ rs) p h e =
-    records-shelf rs (oneMore (p .counts) (recordFiled (p .shelf) r)) (ofFiling (r .slot) (recordFiling r) h)
-    (ap (λ (s : Shelf). filedBy s (r .slot) (recordFiling r) .shelf) e ∙ filing-shelf (r .slot) (recordFiling r) h)
+filing-shelf : (slot : ℕ) (f : Filing) (s : Shelf) → filedBy s slot f .shelf ≡ fileAll (cardBefore slot f []) s
+unfolding fileAll
+filing-shelf slot f s = sym (one-card slot f [] s)
 
-queue-shelf : (q : List ℕ) (s : Shelf) (h : Cards) → s ≡ shelfOfCards h → queueFiled s q .shelf ≡ shelfOfCards (ofRecords (recordsOf q) h)
-unfolding queueFiled ofRecords
-queue-shelf q s h e = by-refusal (eqb (queueRefusal q) 0) refl
+queue-shelf : (q : List ℕ) (s : Shelf) → queueFiled s q .shelf ≡ fileAll (cardsIn (recordsOf q)) s
+unfolding queueFiled cardsIn fileAll
+queue-shelf q s = by-refusal (eqb (queueRefusal q) 0) refl
   where
-    by-refusal : (t : Bool) → eqb (queueRefusal q) 0 ≡ t → queueFiled s q .shelf ≡ shelfOfCards (ofRecords (recordsOf q) h)
-    by-refusal true f = rw f (records-shelf (cutOf q .records) (fromStart s) h e)
-    by-refusal false f = rw f e
+    by-refusal : (t : Bool) → eqb (queueRefusal q) 0 ≡ t → queueFiled s q .shelf ≡ fileAll (cardsIn (recordsOf q)) s
+    by-refusal true f = rw f (records-are-cards (cutOf q .records) (fromStart s))
+    by-refusal false f = rw f
 
 same-shelves : (h : History) → shelfOf h ≡ shelfOfCards (ofHistory h)
 unfolding shelfOf shelfOfCards ofHistory filedOf
 same-shelves start = refl
 same-shelves (file slot x h) =
-    ap (λ (s : Shelf). filedBy s slot (filingOfField slot x) .shelf) (same-shelves h) ∙ filing-shelf slot (filingOfField slot x) (ofHistory h)
-same-shelves (queue q h) = queue-shelf q (shelfOf h) (ofHistory h) (same-shelves h)
+    let cards = cardBefore slot (filingOfField slot x) [] in
+    filing-shelf slot (filingOfField slot x) (shelfOf h) ∙ ap (fileAll cards) (same-shelves h) ∙ cards-shelf cards (ofHistory h)
+same-shelves (queue q h) =
+    queue-shelf q (shelfOf h) ∙ ap (fileAll (cardsIn (recordsOf q))) (same-shelves h) ∙ cards-shelf (cardsIn (recordsOf q)) (ofHistory h)
 same-shelves (join g h) = ap₂ joinShelf (same-shelves g) (same-shelves h)
 
 -- ---- the same cards
 
-filing-cards : (n slot : ℕ) (f : Filing) (h : Cards) → acceptedCards n h ++ acceptedOf n slot f ≡ acceptedCards n (ofFiling slot f h)
-unfolding acceptedOf ofFiling acceptedCards
-filing-cards n slot (refusedFiling number section place) h = append-nil (acceptedCards n h)
-filing-cards n slot (accepted card) h = refl
+-- those of a list of cards that are for a slot
+acceptedAmong : ℕ → List (ℕ × Card) → List Card
+acceptedAmong n [] = []
+acceptedAmong n (e ∷ es) = cond (eqb (e .0) n) (e .1 ∷ []) [] ++ acceptedAmong n es
 
-records-cards : (n : ℕ) (rs : List Sent) (h : Cards) → acceptedCards n h ++ acceptedIn n rs ≡ acceptedCards n (ofRecords rs h)
-unfolding acceptedIn ofRecords
-records-cards n [] h = append-nil (acceptedCards n h)
-records-cards n (r ∷ rs) h =
-    sym (append-assoc (acceptedCards n h) (acceptedOf n (r .slot) (recordFiling r)) (acceptedIn n rs))
-    ∙ ap (λ (l : List Card). l ++ acceptedIn n rs) (filing-cards n (r .slot) (recordFiling r) h)
-    ∙ records-cards n rs (ofFiling (r .slot) (recordFiling r) h)
+among-cards : (n : ℕ) (es : List (ℕ × Card)) (h : Cards) → acceptedCards n h ++ acceptedAmong n es ≡ acceptedCards n (ofCards es h)
+unfolding acceptedAmong ofCards acceptedCards
+among-cards n [] h = append-nil (acceptedCards n h)
+among-cards n (e ∷ es) h =
+    sym (append-assoc (acceptedCards n h) (cond (eqb (e .0) n) (e .1 ∷ []) []) (acceptedAmong n es)) ∙ among-cards n es (put (e .0) (e .1) h)
+
+among-before : (n slot : ℕ) (f : Filing) (es : List (ℕ × Card)) → acceptedOf n slot f ++ acceptedAmong n es ≡ acceptedAmong n (cardBefore slot f es)
+unfolding acceptedOf acceptedAmong cardBefore
+among-before n slot (refusedFiling number section place) es = refl
+among-before n slot (accepted card) es = refl
+
+among-records : (n : ℕ) (rs : List Sent) → acceptedIn n rs ≡ acceptedAmong n (cardsIn rs)
+unfolding acceptedIn acceptedAmong cardsIn
+among-records n [] = refl
+among-records n (r ∷ rs) =
+    ap (λ (l : List Card). acceptedOf n (r .slot) (recordFiling r) ++ l) (among-records n rs) ∙ among-before n (r .slot) (recordFiling r) (cardsIn rs)
+
+among-filing : (n slot : ℕ) (f : Filing) → acceptedOf n slot f ≡ acceptedAmong n (cardBefore slot f [])
+unfolding acceptedAmong
+among-filing n slot f = sym (append-nil (acceptedOf n slot f)) ∙ among-before n slot f []
 
 same-accepted : (n : ℕ) (h : History) → acceptedAt n h ≡ acceptedCards n (ofHistory h)
 unfolding acceptedAt acceptedCards ofHistory
 same-accepted n start = refl
 same-accepted n (file slot x h) =
-    ap (λ (l : List Card). l ++ acceptedOf n slot (filingOfField slot x)) (same-accepted n h) ∙ filing-cards n slot (filingOfField slot x) (ofHistory h)
-same-accepted n (queue q h) = ap (λ (l : List Card). l ++ acceptedIn n (recordsOf q)) (same-accepted n h) ∙ records-cards n (recordsOf q) (ofHistory h)
+    ap₂ (λ (k l : List Card). k ++ l) (same-accepted n h) (among-filing n slot (filingOfField slot x)) ∙ among-cards n (cardBefore slot (filingOfField slot x) []) (ofHistory h)
+same-accepted n (queue q h) =
+    ap₂ (λ (k l : List Card). k ++ l) (same-accepted n h) (among-records n (recordsOf q)) ∙ among-cards n (cardsIn (recordsOf q)) (ofHistory h)
 same-accepted n (join g h) = ap₂ (λ (k l : List Card). k ++ l) (same-accepted n g) (same-accepted n h)
 
 -- ---- the theorems

@@ -3,7 +3,9 @@ pub mod OneSpelling
 pub mod Taken
 pub mod Cuts
 pub mod Walks
+pub mod FiledQueues
 pub mod Counting
+pub mod RecordsAsCards
 pub mod Histories
 pub mod QueueIsJoin
 pub mod Concatenation

@@ -101,3 +101,14 @@ unfolding numberOf
 has-one n rest h =
     ap bounded (read-back 4 n rest (omega arith))
     ∙ ap (λ (t : Bool). cond t Malformed (Found n (length (spelled 5 n)))) (le-ltb 4294967296 n h)
+
+-- and that is the shortest: k groups of seven bits hold the numbers below 128 ^ k, and it has no more of them than are needed
+pub shortest : (most k n : ℕ) → n < 128 ^ suc k → length (spelled most n) ≤ suc k
+unfolding spelled
+shortest zero k n h = omega arith
+shortest (suc most) zero n h = rw (lt-ltb n 128 h) (omega arith)
+shortest (suc most) (suc k) n h = by-top (ltb n 128) (shortest most k (n / 128) (omega (arith, pow-succ' 128 (suc k))))
+  where
+    by-top : (t : Bool) → length (spelled most (n / 128)) ≤ suc k → length (cond t (n ∷ []) ((128 + n % 128) ∷ spelled most (n / 128))) ≤ suc (suc k)
+    by-top true rest = omega arith
+    by-top false rest = omega arith

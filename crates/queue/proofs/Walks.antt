@@ -2,13 +2,13 @@
 -- Assumes nothing.
 use Prim.Native.Nat.{ℕ, _+_, _-_, _≤_, _<_}
 use native.Mathlib.Omega.{arith}
-use mathlib.Core.Path.{_≡_, refl, ap, sym, _∙_}
+use mathlib.Core.Path.{_≡_, ap, sym, _∙_}
 use mathlib.Core.Bool.{true, false}
 use mathlib.Core.List.{List, [], _∷_}
 use lib.ListN.{length, take, drop, length-drop}
 use lib.Seq.{take-all, drop-drop}
 use Rattle.queue.specs.Records.{recordOf}
-use Rattle.queue.specs.Queues.{Cut, recordIn, cutOf}
+use Rattle.queue.specs.Queues.{recordIn, cutOf}
 use Rattle.queue.specs.declared.Head.{Head}
 use Rattle.queue.specs.declared.Record.the-variants.{Whole, Broken}
 use Rattle.queue.proofs.Cuts.{ends, cut-record, cut-broken, cut-end}

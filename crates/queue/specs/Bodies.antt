@@ -15,14 +15,14 @@ endAfter s start =
     cond (ltb (beAt s (start + 1) 4) 5) 0 (cond (ltb (length s) (start + beAt s (start + 1) 4)) 0 (start + beAt s (start + 1) 4))
 
 -- the next section starts where this one ends, if it does
-abbrev pub onward : ℕ → (ℕ → Body) → Body
-onward end next = cond (eqb end 0) NotFive (next end)
+abbrev pub further : ℕ → (ℕ → Body) → Body
+further end next = cond (eqb end 0) NotFive (next end)
 
 unfoldable pub bodyOf : List ℕ → Body
 bodyOf s =
-    onward (endAfter s 0)
-    (λ one. onward (endAfter s one)
-    (λ three. onward (endAfter s three)
-    (λ four. onward (endAfter s four)
-    (λ five. onward (endAfter s five)
+    further (endAfter s 0)
+    (λ one. further (endAfter s one)
+    (λ three. further (endAfter s three)
+    (λ four. further (endAfter s four)
+    (λ five. further (endAfter s five)
     (λ seven. cond (eqb seven (length s)) (Five (record { one = one; three = three; four = four; five = five })) NotFive)))))

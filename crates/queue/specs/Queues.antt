@@ -21,7 +21,6 @@ use Rattle.queue.specs.declared.Body.{Body}
 use Rattle.queue.specs.declared.Body.the-variants.{Five, NotFive}
 use Rattle.queue.specs.declared.Counts.{Counts}
 use Rattle.queue.specs.declared.Progress.{Progress}
-use Rattle.queue.specs.declared.QueueAnswer.{QueueAnswer}
 use Rattle.queue.specs.declared.QueueAnswer.the-variants.{Filed as filedAll, Refused as refusedAll}
 use Rattle.queue.specs.declared.QueueFiled.{QueueFiled}
 

@@ -4,7 +4,7 @@ ghost use Prim.Native.Nat.{_^_, _<_, _≤_};
 ghost use Rattle.queue.specs.Numbers.{groups, numberOf};
 ghost use Rattle.queue.specs.Records.{recordOf, issueFrom};
 ghost use Rattle.queue.specs.Bodies.{endAfter, bodyOf};
-ghost use Rattle.queue.specs.Queues.{between, recordIn, recordFiled, cutOf, counted, total, oneMore, recordsFiled, fromStart, queueRefusal, refusedQueue, queueFiled};
+ghost use Rattle.queue.specs.Queues.{between, recordIn, recordFiled, cutOf, total, oneMore, recordsFiled, fromStart, queueRefusal, queueFiled};
 use filing::Answer;
 use filing::Filed;
 use filing::Issue;

@@ -5,9 +5,8 @@ use mathlib.Core.Bool.{Bool, true, false, cond}
 use mathlib.Core.List.{List, []}
 use Prim.Native.Nat.{ℕ, zero, suc, _+_, _*_, _-_, _^_, _≤_, _<_}
 use native.Mathlib.Omega.{arith}
-use lib.Dec.{ltb, eqb}
+use lib.Dec.{eqb}
 use lib.ListN.{length, drop, length-append, length-drop}
-use borrow.Author.Tests.{ltb-false}
 use Rattle.layout.specs.declared.Refusal.{Refusal}
 use Rattle.card.specs.declared.Card.{Card}
 use Rattle.shelf.specs.Shelves.{emptyShelf, slotAt}
@@ -18,7 +17,7 @@ use Rattle.filing.specs.declared.Issue.the-variants.{NotNamed, Named}
 use Rattle.filing.specs.declared.Answer.{Answer}
 use Rattle.filing.specs.declared.Answer.the-variants.{Kept, Passed, Refused}
 use Rattle.queue.specs.Records.{issueFrom, recordOf}
-use Rattle.queue.specs.Queues.{recordIn, recordFiled, ahead, atEnd, cutIn, cutOf, queueRefusal, queueFiled}
+use Rattle.queue.specs.Queues.{recordIn, recordFiled, ahead, atEnd, cutIn, cutOf, queueFiled}
 use Rattle.queue.specs.declared.Counts.{Counts}
 use Rattle.queue.specs.declared.Record.{Record}
 use Rattle.queue.specs.declared.Record.the-variants.{Whole, Broken}
@@ -26,6 +25,7 @@ use Rattle.queue.specs.declared.QueueAnswer.{QueueAnswer}
 use Rattle.queue.specs.declared.QueueAnswer.the-variants.{Filed as filedAll, Refused as refusedAll}
 use Rattle.queue.proofs.Taken.{taken}
 use Rattle.queue.proofs.Cuts.{stands}
+use Rattle.queue.proofs.FiledQueues.{files}
 use Rattle.text.specs.Text.{written, append, startsWith}
 use Rattle.text.proofs.Laws.{append-whole}
 use Rattle.text.proofs.Decimal.{decimal-short, decimal-most, whole-number-most}
@@ -118,14 +118,7 @@ record-lines (suc most) k shelf s room = by-end (record-lines most) (atEnd s)
 
 -- a queue that is not refused has at most 65,536 octets
 accepted-short : (s : Shelf) (q : List ℕ) (n : Counts) → queueFiled s q .answer ≡ filedAll n → length q ≤ 65536
-unfolding queueFiled queueRefusal
-accepted-short s q n e = by-length (ltb 65536 (length q)) refl
-  where
-    by-length : (b : Bool) → ltb 65536 (length q) ≡ b → length q ≤ 65536
-    by-length true t =
-        let refused : refusedAll (record { number = 2; section = 0; place = 0 }) ≡ filedAll n = rw t at e in
-        let z : _≡_ {A = ℕ} 0 1 = cc in absurd (omega arith)
-    by-length false t = ltb-false 65536 (length q) t
+accepted-short s q n e = files q s (record { shelf = queueFiled s q .shelf; counts = n }) (λ i. record { shelf = queueFiled s q .shelf; answer = e i }) .short
 
 pub explanation-fits : (q : List ℕ) → length (explanation q) ≤ 2163200
 unfolding explanation explanationOf filedExplanation cutOf

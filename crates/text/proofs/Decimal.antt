@@ -48,11 +48,6 @@ whole-number-most (negsuc n) = omega (arith, decimal-most (suc n))
 pub decimal-short : (k n : ℕ) → 1 ≤ k → n < 10 ^ k → length (decimal n) ≤ k
 decimal-short k n some h = short 20 k n some h
 
--- a signed number of 32 bits has at most 10 digits, and a sign
-pub whole-number-short : (z : ℤ) → mag z < 2 ^ 31 → length (wholeNumber z) ≤ 11
-whole-number-short (pos n) h = omega (arith, decimal-short 10 n (omega arith) (omega arith))
-whole-number-short (negsuc n) h = omega (arith, decimal-short 10 (suc n) (omega arith) (omega arith))
-
 -- ---- read back
 
 -- the number that digits say, behind those that were read already

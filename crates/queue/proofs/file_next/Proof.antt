@@ -1,7 +1,6 @@
 -- `file_next`: the record is filed, and one of the three counts is one more.
 -- Assumes nothing.
 use borrow.Author.Needs.{needs}
-use native.Mathlib.Omega.{arith}
 use Rattle.octets.proofs.Free.{free}
 use Rattle.queue.proofs.file_next.Statement.{statement}
 use Rattle.queue.proofs.file_next.Tie as tie

@@ -1,11 +1,9 @@
 -- `file_record`: the body is cut, and its five parts are filed.
 -- Assumes nothing.
 use borrow.Author.Needs.{needs}
-use mathlib.Core.Path.{_≡_, sym, ap, _∙_}
 use Rattle.octets.proofs.Free.{free}
 use Rattle.filing.specs.Filing.{filedBy, filedOf}
 use Rattle.queue.specs.Queues.{bodyFiling, recordFiling, recordFiled}
-use Rattle.queue.specs.Bodies.{bodyOf}
 use Rattle.queue.proofs.file_record.Statement.{statement}
 use Rattle.queue.proofs.file_record.Tie as tie
 

@@ -2,9 +2,6 @@ use native.Mathlib.Omega.{arith}
 use borrow.Author.Needs.{needs}
 use Rattle.cases.proofs.lines.word.Statement.{statement}
 use Rattle.cases.proofs.lines.word.Tie as tie
-use Rattle.cases.proofs.lines.word.Reads as reads
-use Rattle.cases.proofs.lines.word.Lts as lts
-use Rattle.cases.proofs.lines.next.Reads as next-reads
 
 -- src/lines.rt:102:9
 slice-aggregate-result : tie.Need-slice-aggregate-result
