@@ -35,20 +35,6 @@ same-room x (c ∷ t) = same-room (one x c) t ∙ by-room (ltb (x .at) (length (
     by-room true = length-set (x .octets) (x .at) c
     by-room false = refl
 
-still-within : (x : Written) (t : List ℕ) → x .at ≤ length (x .octets) → append x t .at ≤ length (append x t .octets)
-unfolding append one
-still-within x [] h = h
-still-within x (c ∷ t) h = still-within (one x c) t (by-room (ltb (x .at) (length (x .octets))) refl)
-  where
-    by-room : (b : Bool) → ltb (x .at) (length (x .octets)) ≡ b
-        → cond b (written (set (x .octets) (x .at) c) (x .at + 1)) x .at ≤ length (cond b (written (set (x .octets) (x .at) c) (x .at + 1)) x .octets)
-    by-room true e = simp length-set (omega (arith, ltb-true (x .at) (length (x .octets)) e))
-    by-room false e = h
-
--- what a call wrote ends within the buffer
-pub ends-within : (x : Written) {y : Written} (t : List ℕ) → y ≡ append x t → x .at ≤ length (x .octets) → y .at ≤ length (y .octets)
-ends-within x t e h = rw e (still-within x t h)
-
 one-by-one : (x : Written) (t : List ℕ) → x .at + length t ≤ length (x .octets) → append x t ≡ written (sets (x .octets) (x .at) t) (x .at + length t)
 unfolding append one
 one-by-one x [] h = ap (written (x .octets)) (omega arith)
