@@ -1,7 +1,7 @@
 -- Demand 2. The definitions in it, for each section: what it means to follow the template and keep the value rules (`Follows…`,
 -- `specs/Accepted.antt` of its crate), the list of its fields (`fields…`), of which `layout/specs/Fields.antt` computes where each stands and
--- what it says, and what a program's answer says (`told`). A contract of a reader is `told a ≡ outcome… s`, so each theorem is about every
--- answer `a` that the contract allows.
+-- what it says, and what a program's answer says (`told`). A contract of a reader is `told a ≡ outcome… s` (`Contracts.antt`), so a theorem
+-- with that premise is about every answer `a` that the contract allows.
 -- Assumes nothing.
 use Prim.Native.Nat.{ℕ, zero, suc, _+_, _*_, _<_, _≤_}
 use native.Mathlib.Omega.{arith}
@@ -9,10 +9,12 @@ use mathlib.Core.Path.{_≡_, refl, sym, ap, subst, _∙_}
 use mathlib.Core.Bool.{Bool}
 use mathlib.Core.Logic.{_↔_}
 use mathlib.Core.List.{List, [], _∷_}
-use lib.ListN.{length, getD}
+use lib.ListN.{length, getD, drop}
 use Rattle.octets.specs.Octets.{part}
-use Rattle.layout.specs.Fields.{Value, after, valuesOf, octetsOf}
-use Rattle.layout.specs.Outcomes.{Outcome, refused, read}
+use Rattle.layout.specs.Fields.{Value, plain, after, valuesOf, octetsOf}
+use Rattle.layout.specs.Outcomes.{Outcome, refused, read, andThen, firstOf}
+use Rattle.layout.proofs.Outcomes.{NoneHold, read-none}
+use Rattle.layout.proofs.Ranges.{test-same, same-test}
 use Rattle.layout.specs.Shown.{shownOf}
 use Rattle.identification.specs.Section1 as one
 use Rattle.identification.specs.Accepted.{Follows₁}
@@ -42,6 +44,8 @@ use Rattle.product.proofs.AcceptedExactlyWhen.{accepted-exactly-when as exactly
 use Rattle.product.proofs.FieldsCoverOnce.{covered as covered₄}
 use Rattle.product.proofs.ViewsAreTheLayouts.{views-shown, range-whole, no-range, refused-nothing}
 use Rattle.packing.specs.Packed.{bitsFrom, packedAt, packedFrom, unpacked}
+use Rattle.packing.specs.Unpacking.{unpackOutcome, rowBy, rowAfter, toldUnpacked, Unpacks}
+use Rattle.packing.specs.declared.Unpacked.the-variants.{Written}
 use Rattle.packing.specs.Section5 as five
 use Rattle.packing.specs.Section7 as seven
 use Rattle.packing.specs.Accepted.{Follows₅, Follows₇}
@@ -53,9 +57,11 @@ use Rattle.packing.specs.declared.DataAnswer.the-variants.{Read as Read₇}
 use Rattle.packing.specs.declared.DataSection.{DataSection}
 use Rattle.packing.proofs.AcceptedExactlyWhen.{accepted-exactly-when₅, accepted-follows₅, accepted-exactly-when₇, accepted-follows₇}
 use Rattle.packing.proofs.FieldsCoverOnce.{covered₅, covered₇}
-use Rattle.field.specs.Field.{told as toldField, fieldOutcome}
+use Rattle.field.specs.Field.{FieldOutcome, readField, onward, packedOutcome, told as toldField, fieldOutcome}
 use Rattle.field.specs.Accepted.{FollowsField, Accepted as AcceptedField}
 use Rattle.field.specs.declared.Answer.{Answer as FieldAnswer}
+use Rattle.field.specs.declared.Answer.the-variants.{Read as ReadField}
+use Rattle.field.specs.declared.Field.{Field as WholeField}
 use Rattle.field.proofs.AcceptedExactlyWhen.{accepted-exactly-when as exactly-field}
 use Rattle.demands.specs.Accepted.{Accepted}
 
@@ -70,6 +76,12 @@ is-accepted vs e = subst Accepted (sym e) tt
 -- so of an answer that says an outcome
 by-outcome : {F : Type 0} {said o : Outcome} → said ≡ o → ((vs : List Value) × (o ≡ read vs)) ↔ F → Accepted said ↔ F
 by-outcome {F} {said} {o} e w = ((λ a. w .0 (accepted-is o (subst Accepted e a))), (λ f. let r = w .1 f in subst Accepted (sym e) (is-accepted (r .0) (r .1))))
+
+-- a section that is handed on to a field that is read was read itself
+handed : (o : Outcome) (next : List Value → FieldOutcome) {a b c d : List Value} → onward o next ≡ readField a b c d → (vs : List Value) × (o ≡ read vs) × (next vs ≡ readField a b c d)
+unfolding onward
+handed (refused number section place) next e = let z : _≡_ {A = ℕ} 0 1 = cc in absurd (omega arith)
+handed (read vs) next e = (vs, refl, e)
 
 -- ---- "A section is accepted exactly when it has at most 65,536 octets, follows the WMO FM 92 template layouts and keeps the value rules"
 
@@ -93,8 +105,8 @@ field-accepted s1 s3 s4 s5 s7 a e =
     let w = exactly-field s1 s3 s4 s5 s7 in
     ((λ x. w .0 (subst AcceptedField e x)), (λ f. subst AcceptedField (sym e) (w .1 f)))
 
--- ---- "its length is the template's octet count for its own repeat counts, and its fields cover every octet once": the octets of the fields,
--- strung together, are the section
+-- ---- "its length is the template's octet count for its own repeat counts": `whole` of each `Follows…`. "and its fields cover every octet
+-- once": the octets of the fields, strung together, are the section
 
 pub section-1-covered : (template : Template₁) (s : List ℕ) → Follows₁ template s → octetsOf (after 0 (one.fields₁ template)) s ≡ s
 section-1-covered template s f = covered₁ template s (f .whole)
@@ -133,6 +145,20 @@ pub section-7-means : (n bits : ℕ) (s : List ℕ) (x : DataSection) → seven.
 unfolding seven.told₇
 section-7-means n bits s x e = accepted-follows₇ n bits s (seven.valuesIn₇ x) (sym e)
 
+-- a field that is read is its sections, each read as it is alone
+pub field-means : (s1 s3 s4 s5 s7 : List ℕ) (x : WholeField) → toldField (ReadField x) ≡ fieldOutcome s1 s3 s4 s5 s7
+    → (one.outcome₁ s1 ≡ read (one.valuesIn (x .identification))) × (three.outcome₃ s3 ≡ read (three.valuesIn (x .grid))) × (four.outcome₄ s4 ≡ read (four.valuesIn (x .product)))
+    × (five.outcome₅ s5 ≡ read (five.valuesIn₅ (x .packing)))
+unfolding toldField fieldOutcome packedOutcome
+field-means s1 s3 s4 s5 s7 x e =
+    let a = handed (one.outcome₁ s1) _ (sym e) in
+    let b = handed (three.outcome₃ s3) _ (a .2) in
+    let c = handed (four.outcome₄ s4) _ (b .2) in
+    let d = handed (five.outcome₅ s5) _ (c .2) in
+    let f = handed _ _ (d .2) in
+    let same = f .2 in
+    (a .1 ∙ ap read cc, b .1 ∙ ap read cc, c .1 ∙ ap read cc, d .1 ∙ ap read cc)
+
 -- ---- a caller is shown those very octets of the section, and nothing of a refused one
 
 pub list-of-section-3 : (template : Template₃) (s : List ℕ) → Follows₃ template s → three.list₃ s ≡ part s (1 + three.baseEnd template) (three.listOctets s)
@@ -154,7 +180,7 @@ no-range-from-n-up = no-range
 pub no-views-of-section-4 : (s : List ℕ) (number section place : ℕ) → four.outcome₄ s ≡ refused number section place → ((k : ℕ) → rangeOf s k ≡ []) × (membersOf s ≡ []) × (coordinatesOf s ≡ [])
 no-views-of-section-4 = refused-nothing
 
--- ---- unpacking: number i is what the bits from i x bits on stand for, the most significant first
+-- ---- unpacking: number k is what the bits from k x bits on stand for, the most significant first
 
 number-from : (bits i n k : ℕ) (xs : List ℕ) → k < n → getD (packedFrom bits xs i n) k 0 ≡ packedAt bits xs (i + k)
 unfolding packedFrom
@@ -165,3 +191,30 @@ number-from bits i (suc n) (suc k) xs l = number-from bits (suc i) n k xs (omega
 pub unpacked-means : (bits n k : ℕ) (xs : List ℕ) → k < n → getD (unpacked bits n xs) k 0 ≡ bitsFrom xs (k * bits) bits
 unfolding unpacked packedAt
 unpacked-means bits n k xs l = number-from bits 0 n k xs l ∙ ap (packedAt bits xs) (omega arith)
+
+-- a row is written exactly when sections 5 and 7 are accepted and it has N places, and then it holds the N numbers
+and-read : (a b : Outcome) (vs : List Value) → andThen a b ≡ read vs → ((us : List Value) × (a ≡ read us)) × (b ≡ read vs)
+unfolding andThen
+and-read (refused number section place) b vs e = let z : _≡_ {A = ℕ} 0 1 = cc in absurd (omega arith)
+and-read (read us) b vs e = ((us, refl), e)
+
+pub unpacking-means : (s5 s7 row later : List ℕ) (n : ℕ) → Unpacks s5 s7 row (Written n) later
+    → Follows₅ s5 × Follows₇ (five.valuesAt s5) (five.bitsAt s5) s7 × (length row ≡ five.valuesAt s5) × (later ≡ unpacked (five.bitsAt s5) (five.valuesAt s5) (drop 5 s7))
+unfolding unpackOutcome rowAfter toldUnpacked NoneHold
+unpacking-means s5 s7 row later n u =
+    let whole = sym (u .answers) in
+    let a = and-read (five.outcome₅ s5) _ _ whole in
+    let b = and-read (seven.outcome₇ (five.valuesAt s5) (five.bitsAt s5) s7) _ _ (a .1) in
+    let c = read-none 0 _ (read (plain (five.valuesAt s5) ∷ [])) _ (b .1) in (
+      accepted-exactly-when₅ s5 .0 (a .0),
+      accepted-exactly-when₇ (five.valuesAt s5) (five.bitsAt s5) s7 .0 (b .0),
+      test-same _ _ (c .0 .0),
+      u .leaves ∙ ap (λ (o : Outcome). rowBy o row (unpacked (five.bitsAt s5) (five.valuesAt s5) (drop 5 s7))) whole,
+    )
+
+pub unpacking-accepted : (s5 s7 row : List ℕ) → Follows₅ s5 → Follows₇ (five.valuesAt s5) (five.bitsAt s5) s7 → length row ≡ five.valuesAt s5 → Accepted (unpackOutcome s5 s7 row)
+unfolding unpackOutcome andThen firstOf
+unpacking-accepted s5 s7 row f g l =
+    let a = accepted-exactly-when₅ s5 .1 f in
+    let b = accepted-exactly-when₇ (five.valuesAt s5) (five.bitsAt s5) s7 .1 g in
+    rw (a .1, b .1, same-test _ _ l) tt

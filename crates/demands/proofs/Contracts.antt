@@ -1,0 +1,101 @@
+-- What the contracts say, as the checker reads them from the code (`Learnt`): the equations over which the demands are stated. A weaker
+-- `ensures` would not give them. (`filing::file`, which is proved by a walk, has no such reading; its contract is `EveryEntryEnds`'.)
+-- Assumes nothing.
+use Prim.Native.Nat.{ℕ}
+use mathlib.Core.Path.{_≡_}
+use mathlib.Core.List.{List}
+use denote.Ref.{now}
+use Rattle.identification.specs.Section1 as one
+use Rattle.grid.specs.Section3 as three
+use Rattle.product.specs.Section4 as four
+use Rattle.product.specs.Views.{rangeOf, membersOf, coordinatesOf}
+use Rattle.packing.specs.Section5 as five
+use Rattle.packing.specs.Section7 as seven
+use Rattle.packing.specs.Unpacking.{Unpacks}
+use Rattle.field.specs.Field as field
+use Rattle.shelf.specs.Shelves.{emptyShelf, putOf, joinShelf}
+use Rattle.filing.specs.Filing.{filedOf}
+use Rattle.filing.specs.declared.Issue.the-variants.{NotNamed}
+use Rattle.queue.specs.Queues.{recordIn, recordFiled, queueFiled}
+use Rattle.text.specs.Text.{written, startsWith}
+use Rattle.report.specs.Texts.{listing, explanation}
+use Rattle.identification.proofs.read.Reads as read₁
+use Rattle.grid.proofs.read.Reads as read₃
+use Rattle.grid.proofs.list.Reads as list
+use Rattle.product.proofs.read.Reads as read₄
+use Rattle.product.proofs.time_range.Reads as time-range
+use Rattle.product.proofs.member_list.Reads as member-list
+use Rattle.product.proofs.coordinate_list.Reads as coordinate-list
+use Rattle.packing.proofs.read.Reads as read₅
+use Rattle.packing.proofs.read_data.Reads as read₇
+use Rattle.packing.proofs.unpack.Reads as unpack
+use Rattle.field.proofs.read.Reads as read-field
+use Rattle.shelf.proofs.Shelf.empty.Reads as empty
+use Rattle.shelf.proofs.put.Reads as put
+use Rattle.shelf.proofs.join.Reads as join
+use Rattle.filing.proofs.file_by_value.Reads as file
+use Rattle.filing.proofs.bench_reload.Reads as reload
+use Rattle.queue.proofs.file_record.Reads as file-record
+use Rattle.queue.proofs.file.Reads as file-queue
+use Rattle.report.proofs.whole_listing.Reads as whole-listing
+use Rattle.report.proofs.whole_explanation.Reads as whole-explanation
+
+pub identification-read : (lent : _) (given : _) (r : _) (later : _) → read₁.Learnt lent given r later → one.told r ≡ one.outcome₁ (now (given .0))
+identification-read lent given r later e = e
+
+pub grid-read : (lent : _) (given : _) (r : _) (later : _) → read₃.Learnt lent given r later → three.told r ≡ three.outcome₃ (now (given .0))
+grid-read lent given r later e = e
+
+pub grid-list : (lent : _) (given : _) (r : _) (later : _) → list.Learnt lent given r later → now r ≡ three.list₃ (now (given .0))
+grid-list lent given r later e = e
+
+pub product-read : (lent : _) (given : _) (r : _) (later : _) → read₄.Learnt lent given r later → four.told r ≡ four.outcome₄ (now (given .0))
+product-read lent given r later e = e
+
+pub product-time-range : (lent : _) (given : _) (r : _) (later : _) → time-range.Learnt lent given r later → now r ≡ rangeOf (now (given .0)) (given .1 .0)
+product-time-range lent given r later e = e
+
+pub product-member-list : (lent : _) (given : _) (r : _) (later : _) → member-list.Learnt lent given r later → now r ≡ membersOf (now (given .0))
+product-member-list lent given r later e = e
+
+pub product-coordinate-list : (lent : _) (given : _) (r : _) (later : _) → coordinate-list.Learnt lent given r later → now r ≡ coordinatesOf (now (given .0))
+product-coordinate-list lent given r later e = e
+
+pub packing-read : (lent : _) (given : _) (r : _) (later : _) → read₅.Learnt lent given r later → five.told₅ r ≡ five.outcome₅ (now (given .0))
+packing-read lent given r later e = e
+
+pub packing-read-data : (lent : _) (given : _) (r : _) (later : _) → read₇.Learnt lent given r later → seven.told₇ r ≡ seven.outcome₇ (given .1 .0) (given .1 .1 .0) (now (given .0))
+packing-read-data lent given r later e = e
+
+pub packing-unpack : (lent : _) (given : _) (r : _) (later : _) → unpack.Learnt lent given r later → Unpacks (now (given .0)) (now (given .1 .0)) (now (given .1 .1 .0)) r (now (later .1 .1 .0))
+packing-unpack lent given r later e = e
+
+pub field-read : (lent : _) (given : _) (r : _) (later : _) → read-field.Learnt lent given r later → field.told r ≡ field.fieldOutcome (now (given .0)) (now (given .1 .0)) (now (given .1 .1 .0)) (now (given .1 .1 .1 .0)) (now (given .1 .1 .1 .1 .0))
+field-read lent given r later e = e
+
+pub shelf-empty : (lent : _) (given : _) (r : _) (later : _) → empty.Learnt lent given r later → r ≡ emptyShelf
+shelf-empty lent given r later e = e
+
+pub shelf-put : (lent : _) (given : _) (r : _) (later : _) → put.Learnt lent given r later → r ≡ putOf (given .0) (given .1 .0) (given .1 .1 .0)
+shelf-put lent given r later e = e
+
+pub shelf-join : (lent : _) (given : _) (r : _) (later : _) → join.Learnt lent given r later → r ≡ joinShelf (given .0) (given .1 .0)
+shelf-join lent given r later e = e
+
+pub filing-file-by-value : (lent : _) (given : _) (r : _) (later : _) → file.Learnt lent given r later → r ≡ filedOf (given .0) (given .1 .0) (given .1 .1 .0) (now (given .1 .1 .1 .0)) (now (given .1 .1 .1 .1 .0)) (now (given .1 .1 .1 .1 .1 .0)) (now (given .1 .1 .1 .1 .1 .1 .0)) (now (given .1 .1 .1 .1 .1 .1 .1 .0))
+filing-file-by-value lent given r later e = e
+
+pub filing-bench-reload : (lent : _) (given : _) (r : _) (later : _) → reload.Learnt lent given r later → r ≡ filedOf (given .0) (given .1 .0) NotNamed (now (given .1 .1 .0)) (now (given .1 .1 .1 .0)) (now (given .1 .1 .1 .1 .0)) (now (given .1 .1 .1 .1 .1 .0)) (now (given .1 .1 .1 .1 .1 .1 .0))
+filing-bench-reload lent given r later e = e
+
+pub queue-file-record : (lent : _) (given : _) (r : _) (later : _) → file-record.Learnt lent given r later → r ≡ recordFiled (given .0) (recordIn (now (given .1 .0)) (given .1 .1 .0))
+queue-file-record lent given r later e = e
+
+pub queue-file : (lent : _) (given : _) (r : _) (later : _) → file-queue.Learnt lent given r later → r ≡ queueFiled (given .0) (now (given .1 .0))
+queue-file lent given r later e = e
+
+pub report-whole-listing : (lent : _) (given : _) (r : _) (later : _) → whole-listing.Learnt lent given r later → written (now (later .1 .0)) r ≡ startsWith (now (given .1 .0)) (listing (now (given .0)))
+report-whole-listing lent given r later e = e
+
+pub report-whole-explanation : (lent : _) (given : _) (r : _) (later : _) → whole-explanation.Learnt lent given r later → written (now (later .1 .0)) r ≡ startsWith (now (given .1 .0)) (explanation (now (given .0)))
+report-whole-explanation lent given r later e = e
