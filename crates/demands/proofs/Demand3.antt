@@ -3,18 +3,28 @@
 -- a queue (`queue/specs/Queues.antt`), and how a shelf came about (`queue/specs/History.antt`).
 -- Assumes nothing.
 use Prim.Native.Nat.{ℕ, _<_}
-use mathlib.Core.Path.{_≡_, ap, _∙_}
+use mathlib.Core.Path.{_≡_, refl, ap, _∙_}
 use mathlib.Core.Bool.{Bool, false, cond}
 use mathlib.Core.List.{List, [], _∷_, _++_, List·Memᴰ, append-nil}
 use lib.Dec.{eqb}
+use lib.ListN.{length}
+use Rattle.layout.specs.Fields.{Value}
+use Rattle.layout.specs.Outcomes.{read}
+use Rattle.identification.specs.Section1.{outcome₁}
+use Rattle.identification.specs.Accepted.{Follows₁}
+use Rattle.identification.specs.declared.Template.{Template}
 use Rattle.card.specs.declared.Card.{Card}
 use Rattle.shelf.specs.Shelves.{emptyShelf, slotAt, joinShelf}
 use Rattle.shelf.specs.History.{Keeps}
 use Rattle.shelf.specs.declared.Shelf.{Shelf}
 use Rattle.shelf.proofs.Laws.{shelf-join}
-use Rattle.filing.specs.Filing.{Filing, refusedFiling, filingOf, filedBy, filedOf}
+use Rattle.filing.specs.Filing.{Filing, refusedFiling, cardOf, foreignCalendar, filingOf, filedBy, filedOf}
+use Rattle.filing.proofs.CardOctets.{cardAt, foreignAt, card-octets}
 use Rattle.filing.specs.declared.Filed.{Filed}
-use Rattle.queue.specs.Queues.{Sent, recordFiling, recordsFiled, fromStart, cutOf, queueRefusal, refusedQueue, acceptedQueue, queueFiled}
+use Rattle.queue.specs.Queues.{Sent, between, bodyFiling, recordFiling, recordFiled, recordsFiled, fromStart, cutOf, queueRefusal, refusedQueue, acceptedQueue, queueFiled}
+use Rattle.queue.specs.Bodies.{bodyOf}
+use Rattle.queue.specs.declared.Body.{Body}
+use Rattle.queue.specs.declared.Body.the-variants.{Five, NotFive}
 use Rattle.queue.specs.declared.QueueFiled.{QueueFiled}
 use Rattle.queue.specs.History.{Field, History, start, file, queue, join, shelfOf, acceptedAt, acceptedIn, acceptedOf}
 use Rattle.queue.proofs.Histories.{kept, same-shelf}
@@ -38,6 +48,27 @@ made-by-queue h q r e = ap (λ (y : QueueFiled). y .shelf) e
 pub made-by-joining : (g h : History) (r : Shelf) → r ≡ joinShelf (shelfOf g) (shelfOf h) → r ≡ shelfOf (join g h)
 unfolding shelfOf
 made-by-joining g h r e = e
+
+-- a record that is filed by itself: its five sections are a field, or it is refused with 20
+pub made-by-record : (h : History) (x : Sent) (r : Filed) → r ≡ recordFiled (shelfOf h) x → (g : History) × (r .shelf ≡ shelfOf g)
+unfolding shelfOf recordFiled recordFiling bodyFiling filedOf filedBy
+made-by-record h x r e = by-body (bodyOf (x .body)) refl
+  where
+    by-body : (b : Body) → bodyOf (x .body) ≡ b → (g : History) × (r .shelf ≡ shelfOf g)
+    by-body NotFive f = (h, ap (λ (y : Filed). y .shelf) e ∙ ap (λ (b : Body). filedBy (shelfOf h) (x .slot) (bodyFiling (x .slot) (x .issue) (x .body) b) .shelf) f)
+    by-body (Five ends) f =
+        let s = x .body in (
+          file (x .slot)
+              (record { issue = x .issue; s1 = between s 0 (ends .one); s3 = between s (ends .one) (ends .three); s4 = between s (ends .three) (ends .four); s5 = between s (ends .four) (ends .five); s7 = between s (ends .five) (length s) })
+              h,
+          ap (λ (y : Filed). y .shelf) e ∙ ap (λ (b : Body). filedBy (shelfOf h) (x .slot) (bodyFiling (x .slot) (x .issue) s b) .shelf) f,
+        )
+
+-- ---- a card: the real reference time, the issue and octets 8-34 of section 4, by octet numbers; 17 looks at octet 24
+
+pub card-by-octets : (s1 : List ℕ) (one : List Value) (issue : ℕ) (s4 : List ℕ) → outcome₁ s1 ≡ read one →
+    (template : Template) × Follows₁ template s1 × (cardOf one issue s4 ≡ cardAt template s1 issue s4) × (foreignCalendar one ≡ foreignAt template s1)
+card-by-octets = card-octets
 
 -- ---- "each slot holds the greatest card ever accepted for it, here or in a shelf joined in directly or through others, or is empty"
 

@@ -243,7 +243,7 @@ shelf-join-takes lent given = tt
 pub filing-file-by-value-takes : TakesEvery filing-file-by-value.Asked
 filing-file-by-value-takes lent given = tt
 
--- `file` lends the shelf, and its proof is a walk by hand, for which the checker makes no `Asked`: its `requires` as it stands, which holds of nothing
+-- `file` lends the shelf, and its proof is a walk by hand, for which the checker makes no `Asked`: its `requires` as it stands, which asks for nothing
 pub filing-file-takes : {M : Type 1} (𝓤 : URA M) (H : Heap 𝓤) (A : Atoms 𝓤) (at-mem : Memory → SProp 𝓤) (run : Routine → Fun 𝓤) (lent : Lfts 2) (given : Args filing-file.signature lent) → ent 𝓤 (emp 𝓤) (filing-file.spec 𝓤 H A at-mem run lent given .requires tt)
 filing-file-takes 𝓤 H A at-mem run lent given = id⊢ 𝓤 (emp 𝓤)
 

@@ -9,7 +9,7 @@ use lib.Dec.{ltb, eqb}
 use borrow.Author.Tests.{eqb-true}
 use Rattle.octets.specs.Octets.{beAt}
 use Rattle.layout.specs.Fields.{Value, plain, after, valuesOf}
-use Rattle.layout.specs.Outcomes.{Outcome, refused, read, refusedBy, Reason, reason, firstOf, andThen, headReasons}
+use Rattle.layout.specs.Outcomes.{Outcome, refused, read, refusedBy, Reason, reason, firstOf, andThen, headReasons, firstNumber}
 use Rattle.layout.specs.declared.Refusal.{Refusal}
 use Rattle.identification.specs.Section1.{told as told₁, outcome₁, byTemplate as byTemplate₁, byNumber, asTemplate as asTemplate₁, templateReasons as templateReasons₁, values₁, lengthReasons as lengthReasons₁}
 use Rattle.identification.specs.declared.Template.{Template as Template₁}
@@ -336,3 +336,20 @@ refuses-queue shelf q = by-tests (ltb 65536 (length q)) (cutOf q .whole)
 
 pub queue-refuses : (shelf : Shelf) (q : List ℕ) (x : Refusal) → queueFiled shelf q .answer ≡ refusedAll x → Listed queueTable x
 queue-refuses shelf q x e = subst (λ (a : QueueAnswer). RefusesQueue a) e (refuses-queue shelf q)
+
+-- ---- the two entries that answer a number alone: 0 is none
+
+pub queue-number : (q : List ℕ) → oneOf (0 ∷ 2 ∷ 19 ∷ []) (queueRefusal q) ≡ true
+unfolding queueRefusal
+queue-number q =
+    by-test (λ (t : Bool). oneOf (0 ∷ 2 ∷ 19 ∷ []) (cond t 2 (cond (cutOf q .whole) 0 19)) ≡ true) (ltb 65536 (length q)) (λ h. refl)
+    (λ h. by-test (λ (t : Bool). oneOf (0 ∷ 2 ∷ 19 ∷ []) (cond t 0 19) ≡ true) (cutOf q .whole) (λ h. refl) (λ h. refl))
+
+pub head-number : (s : List ℕ) (section : ℕ) → oneOf (0 ∷ 1 ∷ 2 ∷ 3 ∷ 4 ∷ []) (firstNumber (headReasons section s)) ≡ true
+unfolding firstNumber
+head-number s section =
+    let numbers : List ℕ = 0 ∷ 1 ∷ 2 ∷ 3 ∷ 4 ∷ [] in
+    by-test (λ (t : Bool). oneOf numbers (cond t 1 _) ≡ true) (ltb (length s) 5) (λ h. refl)
+    (λ h. by-test (λ (t : Bool). oneOf numbers (cond t 2 _) ≡ true) (ltb 65536 (length s)) (λ h. refl)
+    (λ h. by-test (λ (t : Bool). oneOf numbers (cond t 3 _) ≡ true) (not (eqb (beAt s 1 4) (length s))) (λ h. refl)
+    (λ h. by-test (λ (t : Bool). oneOf numbers (cond t 4 0) ≡ true) (not (eqb (beAt s 5 1) section)) (λ h. refl) (λ h. refl))))
