@@ -1,10 +1,9 @@
--- Wrong programs that no edit of the code's shape gives: what they answer is not what the contracts allow. (docs/WRONG-PROGRAMS.md has those
--- that edits try.)
+-- Wrong programs: what they answer is not what the contracts allow. (docs/WRONG-PROGRAMS.md has the edits that try them and others.)
 -- Assumes nothing.
 use Prim.Native.Nat.{ℕ, _<_}
-use mathlib.Core.Path.{_≡_, refl, sym, ap, _∙_}
+use mathlib.Core.Path.{_≡_, refl, sym, ap, subst, _∙_}
 use mathlib.Core.Bool.{Bool, true, false, true≢false, cond}
-use mathlib.Core.List.{[]}
+use mathlib.Core.List.{List, []}
 use mathlib.Core.Logic.{_≢_}
 use lib.ListN.{length, getD-replicate}
 use Rattle.card.specs.declared.Card.{Card}
@@ -14,6 +13,11 @@ use Rattle.shelf.specs.declared.Slot.{Slot}
 use Rattle.shelf.specs.declared.Shelf.{Shelf}
 use Rattle.shelf.specs.declared.PutDone.{PutDone}
 use Rattle.shelf.proofs.Laws.{put-same}
+use Rattle.filing.specs.Filing.{filingOf, filedOf}
+use Rattle.filing.specs.declared.Issue.{Issue}
+use Rattle.filing.specs.declared.Answer.the-variants.{Kept}
+use Rattle.filing.specs.declared.Filed.{Filed}
+use Rattle.filing.proofs.SaidOfTheSlots.{Said, said}
 use Rattle.queue.specs.Queues.{cutIn, cutOf, recordsFiled, fromStart, queueRefusal, acceptedQueue, queueFiled}
 
 -- ---- a shelf that stays empty: after any card was put to a slot, that slot is held
@@ -40,6 +44,15 @@ stays-empty s slot c r long l e z =
     ∙ sym (ap (λ (x : Slot). x .held) (put-same s slot c long l))
     ∙ ap (λ (x : Shelf). slotAt x slot .held) (sym (ap (λ (y : PutDone). y .shelf) e) ∙ z)
     ∙ ap (λ (x : Slot). x .held) (getD-replicate 64 slot blank blank l))
+
+-- ---- a lent shelf that stays as it was: that is not `Kept`
+
+pub lent-shelf-stays : (s : Shelf) (slot : ℕ) (issue : Issue) (s1 s3 s4 s5 s7 : List ℕ) → length (s .slots) ≡ 64 → record { shelf = s; answer = Kept } ≢ filedOf s slot issue s1 s3 s4 s5 s7
+unfolding filedOf
+lent-shelf-stays s slot issue s1 s3 s4 s5 s7 long e =
+    let f = filingOf slot issue s1 s3 s4 s5 s7 in
+    let differs = subst (λ (y : Filed). Said s slot (y .shelf) (y .answer)) (sym e) (said s slot f long) in
+    differs refl
 
 -- ---- a queue filing that refuses everything: the empty queue is filed, with counts 0, 0, 0
 
