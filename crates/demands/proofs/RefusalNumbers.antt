@@ -348,8 +348,11 @@ queue-number q =
 pub head-number : (s : List ℕ) (section : ℕ) → oneOf (0 ∷ 1 ∷ 2 ∷ 3 ∷ 4 ∷ []) (firstNumber (headReasons section s)) ≡ true
 unfolding firstNumber
 head-number s section =
-    let numbers : List ℕ = 0 ∷ 1 ∷ 2 ∷ 3 ∷ 4 ∷ [] in
-    by-test (λ (t : Bool). oneOf numbers (cond t 1 _) ≡ true) (ltb (length s) 5) (λ h. refl)
-    (λ h. by-test (λ (t : Bool). oneOf numbers (cond t 2 _) ≡ true) (ltb 65536 (length s)) (λ h. refl)
-    (λ h. by-test (λ (t : Bool). oneOf numbers (cond t 3 _) ≡ true) (not (eqb (beAt s 1 4) (length s))) (λ h. refl)
-    (λ h. by-test (λ (t : Bool). oneOf numbers (cond t 4 0) ≡ true) (not (eqb (beAt s 5 1) section)) (λ h. refl) (λ h. refl))))
+    by-tests (ltb (length s) 5) (ltb 65536 (length s)) (not (eqb (beAt s 1 4) (length s))) (not (eqb (beAt s 5 1) section))
+  where
+    by-tests : (a b c d : Bool) → oneOf (0 ∷ 1 ∷ 2 ∷ 3 ∷ 4 ∷ []) (cond a 1 (cond b 2 (cond c 3 (cond d 4 0)))) ≡ true
+    by-tests true b c d = refl
+    by-tests false true c d = refl
+    by-tests false false true d = refl
+    by-tests false false false true = refl
+    by-tests false false false false = refl
