@@ -135,6 +135,10 @@ use Rattle.report.proofs.listing.Statement as report-listing
 use Rattle.report.proofs.listing.Met as report-listing-met
 use Rattle.report.proofs.explanation.Statement as report-explanation
 use Rattle.report.proofs.explanation.Met as report-explanation-met
+use Rattle.skogmund.proofs.skogmund_unpack.Statement as skogmund-unpack
+use Rattle.skogmund.proofs.skogmund_unpack.Met as skogmund-unpack-met
+use Rattle.skogmund.proofs.skogmund_list.Statement as skogmund-list
+use Rattle.skogmund.proofs.skogmund_list.Met as skogmund-list-met
 use Rattle.standard.proofs.read_all.Statement as standard-read-all
 use Rattle.standard.proofs.read_all.Met as standard-read-all-met
 use Rattle.standard.proofs.read_failed.Statement as standard-read-failed
@@ -379,3 +383,11 @@ standard-read-failed-ends = standard-read-failed-met.met
 
 pub standard-print-ends : {M : Type 1} → standard-print.statement M
 standard-print-ends = standard-print-met.met
+
+-- ---- skogmund
+
+pub skogmund-unpack-ends : {M : Type 1} → skogmund-unpack.statement M
+skogmund-unpack-ends = skogmund-unpack-met.met
+
+pub skogmund-list-ends : {M : Type 1} → skogmund-list.statement M
+skogmund-list-ends = skogmund-list-met.met

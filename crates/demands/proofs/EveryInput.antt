@@ -77,6 +77,8 @@ use Rattle.report.proofs.whole_listing.Reads as report-whole-listing
 use Rattle.report.proofs.whole_explanation.Reads as report-whole-explanation
 use Rattle.report.proofs.listing.Reads as report-listing
 use Rattle.report.proofs.explanation.Reads as report-explanation
+use Rattle.skogmund.proofs.skogmund_unpack.Reads as skogmund-unpack
+use Rattle.skogmund.proofs.skogmund_list.Reads as skogmund-list
 use Rattle.standard.proofs.read_all.Reads as standard-read-all
 use Rattle.standard.proofs.read_failed.Reads as standard-read-failed
 use Rattle.standard.proofs.print.Reads as standard-print
@@ -320,3 +322,11 @@ standard-read-failed-takes lent given = tt
 
 pub standard-print-takes : TakesEvery standard-print.Asked
 standard-print-takes lent given = tt
+
+-- ---- skogmund
+
+pub skogmund-unpack-takes : TakesEvery skogmund-unpack.Asked
+skogmund-unpack-takes lent given = tt
+
+pub skogmund-list-takes : TakesEvery skogmund-list.Asked
+skogmund-list-takes lent given = tt

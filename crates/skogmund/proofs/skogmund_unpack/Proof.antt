@@ -1,0 +1,39 @@
+-- `skogmund_unpack`: what `unpack` answers, as one number.
+-- Assumes nothing.
+use borrow.Author.Needs.{needs}
+use mathlib.Core.Path.{sym, ap, _∙_}
+use Rattle.packing.specs.Unpacking.{toldUnpacked}
+use Rattle.skogmund.specs.Entries.{coded}
+use Rattle.skogmund.proofs.Places.{place-small}
+use Rattle.skogmund.proofs.skogmund_unpack.Statement.{statement}
+use Rattle.skogmund.proofs.skogmund_unpack.Tie as tie
+
+returns : tie.Need-returns
+unfolding toldUnpacked
+returns c =
+    let u = c .before .before .before .before .unpack .ensures in
+    (sym (ap coded (sym (u .answers) ∙ ap toldUnpacked (c .enum-told .given .1))), u .leaves)
+
+code-requires : tie.Need-code-requires
+code-requires c κs =
+    let u = c .before .before .before .before .before .unpack .ensures in
+    place-small _ _ _ (c .before .answer .given .0 .0) (sym (ap toldUnpacked (c .before .answer .given .1)) ∙ u .answers)
+
+returns-2 : tie.Need-returns-2
+unfolding toldUnpacked
+returns-2 c =
+    let u = c .before .before .before .before .before .before .unpack .ensures in
+    (c .code .ensures ∙ sym (ap coded (sym (u .answers) ∙ ap toldUnpacked (c .before .before .answer .given .1))), u .leaves)
+
+pub skogmund-unpack-spec : {M : Type 1} → statement M
+skogmund-unpack-spec =
+    tie.close
+    (tie.spec
+    (λ c κs. search needs)
+    (λ c. search needs)
+    (λ c. search needs)
+    (λ c. search needs)
+    returns
+    code-requires
+    (λ c. search needs)
+    returns-2)

@@ -1,0 +1,35 @@
+-- What the entries for C answer: a refusal as one number, and what is left in the lent buffers.
+-- Assumes nothing.
+use Prim.Native.Nat.{ℕ, _+_, _*_, _^_}
+use mathlib.Core.Path.{_≡_}
+use mathlib.Core.Bool.{Bool, cond, _&&_}
+use mathlib.Core.List.{List, _++_}
+use lib.Dec.{ltb, leb}
+use lib.ListN.{length, drop, set}
+use Rattle.layout.specs.Outcomes.{Outcome, refused, read}
+use Rattle.layout.specs.declared.Refusal.{Refusal}
+use Rattle.report.specs.Texts.{listing}
+
+-- number x 2^40 + section x 2^32 + place
+abbrev pub code : ℕ → ℕ → ℕ → ℕ
+code number section place = number * 2 ^ 40 + section * 2 ^ 32 + place
+
+abbrev pub codeOf : Refusal → ℕ
+codeOf x = code (x .number) (x .section) (x .place)
+
+-- 0 where nothing is refused
+abbrev pub coded : Outcome → ℕ
+coded (refused number section place) = code number section place
+coded (read vs) = 0
+
+-- ---- the listing
+
+-- there is room for the text and for its length
+abbrev pub fits : List ℕ → List ℕ → List ℕ → Bool
+fits q text places = leb (length (listing q)) (length text) && ltb 0 (length places)
+
+-- the answer and the two buffers afterwards: 18 leaves both as they were
+pub record Listed (q text places : List ℕ) (answer : ℕ) (text′ places′ : List ℕ) : Type 0 where
+  pub answers : answer ≡ cond (fits q text places) 0 (code 18 0 0)
+  pub writes : text′ ≡ cond (fits q text places) (listing q ++ drop (length (listing q)) text) text
+  pub counts : places′ ≡ cond (fits q text places) (set places 0 (length (listing q))) places

@@ -1,0 +1,49 @@
+// The entries for C and Rust, on numbers and slices; `include/skogmund.h` declares them. Nothing is kept between calls. A refusal is one
+// number: 0 for none, else number x 2^40 + section x 2^32 + place.
+ghost use mathlib.Core.Path.{_≡_};
+ghost use Prim.Native.Nat.{_≤_};
+ghost use Rattle.packing.specs.Unpacking.{unpackOutcome, rowAfter};
+ghost use Rattle.skogmund.specs.Entries.{codeOf, coded, Listed};
+use layout::Refusal;
+use packing::Unpacked;
+
+// A row that has no room, and a text that doesn't fit: 18, of no section and no place.
+const NO_ROOM: u64 = 19791209299968;
+
+#[no_mangle]
+pub extern "C" fn skogmund_unpack(section5: &[u8], section7: &[u8], row: &mut [u32]) -> u64
+    ensures { λ r. ⌜ r ≡ coded (unpackOutcome (now (section5 .entry)) (now (section7 .entry)) (now (row .entry))) ⌝ }
+    ensures { λ _. ⌜ now (row .exit) ≡ rowAfter (now (section5 .entry)) (now (section7 .entry)) (now (row .entry)) ⌝ }
+{
+    let answer = packing::unpack(section5, section7, row);
+    let Unpacked::Refused(x) = answer else {
+        return 0;
+    };
+    code(x)
+}
+
+// A place is an octet number of a section, of which there are at most 65,536.
+fn code(x: Refusal) -> u64
+    requires { ⌜ x .place ≤ 65536 ⌝ }
+    ensures { λ r. ⌜ r ≡ codeOf x ⌝ }
+{
+    x.number as u64 * 1099511627776 + x.section as u64 * 4294967296 + x.place as u64
+}
+
+// What the program `listing` prints for this queue, at the start of the text buffer, and its length in the first place of `length`.
+#[no_mangle]
+pub extern "C" fn skogmund_list(queue: &[u8], text: &mut [u8], length: &mut [u64]) -> u64
+    ensures { λ r. ⌜ Listed (now (queue .entry)) (now (text .entry)) (now (length .entry)) r (now (text .exit)) (now (length .exit)) ⌝ }
+{
+    let mut room = report::listing_buffer();
+    let end = report::whole_listing(queue, &mut room);
+    if text.len() < end {
+        return NO_ROOM;
+    }
+    if length.len() == 0 {
+        return NO_ROOM;
+    }
+    text::words(text, 0, &room[..end]);
+    length[0] = end as u64;
+    0
+}
