@@ -1,0 +1,34 @@
+//! Links `libskogmund.a` from the directory in SKOGMUND_LIB, or else from `target/staticlib` of the repository. Without a
+//! library the cfg `no_library` leaves out what needs it, so that the reference's own tests still run.
+use std::env;
+use std::path::PathBuf;
+
+const ARCHIVE: &str = "libskogmund.a";
+
+fn library_directory() -> PathBuf {
+    let package =
+        PathBuf::from(env::var_os("CARGO_MANIFEST_DIR").expect("cargo names the package"));
+    match env::var_os("SKOGMUND_LIB") {
+        // A relative directory is the package's, not that of whoever called cargo.
+        Some(named) => package.join(named),
+        None => package.join("../../target/staticlib"),
+    }
+}
+
+fn main() {
+    let directory = library_directory();
+    let archive = directory.join(ARCHIVE);
+    println!("cargo::rustc-check-cfg=cfg(no_library)");
+    println!("cargo::rerun-if-env-changed=SKOGMUND_LIB");
+    println!("cargo::rerun-if-changed={}", archive.display());
+    if archive.is_file() {
+        println!("cargo::rustc-link-search=native={}", directory.display());
+        println!("cargo::rustc-link-lib=static=skogmund");
+    } else if env::var_os("SKOGMUND_LIB").is_some() {
+        // Whoever names a library wants it tested.
+        println!("cargo::error=no {ARCHIVE} in the directory of SKOGMUND_LIB");
+    } else {
+        println!("cargo::warning=no {ARCHIVE} found: only the reference is tested");
+        println!("cargo::rustc-cfg=no_library");
+    }
+}

@@ -1,0 +1,35 @@
+//! What comes before the fields in each section: refusals 1 to 7.
+use super::fields::{octet, span, Field, Rule};
+use super::octets::number;
+use super::{refuse_if, Outcome, Refusal, MOST_OCTETS};
+
+/// The two fields that every section begins with.
+pub const HEAD: &[Field] = &[
+    span(1, 4, "length", Rule::Raw),
+    octet(5, "number of section", Rule::Raw),
+];
+
+/// Refusals 1 to 4.
+pub fn look_at_head(s: &[u8], section: u8) -> Outcome<()> {
+    refuse_if(s.len() < 5, 1, section)?;
+    refuse_if(s.len() > MOST_OCTETS, 2, section)?;
+    refuse_if(number(s, 1, 4) != s.len() as u64, 3, section)?;
+    refuse_if(s[4] != section, 4, section)
+}
+
+/// Refusals 6 and 7: the entry of the list whose number stands at `at` and `at + 1`, with its smallest total.
+pub fn look_up<T>(
+    s: &[u8],
+    section: u8,
+    at: usize,
+    listed: &'static [T],
+    number_and_smallest: impl Fn(&T) -> (u64, usize),
+) -> Outcome<&'static T> {
+    let stated = number(s, at, at + 1);
+    let found = listed
+        .iter()
+        .find(|entry| number_and_smallest(entry).0 == stated);
+    let entry = found.ok_or(Refusal::of_section(6, section))?;
+    refuse_if(s.len() < number_and_smallest(entry).1, 7, section)?;
+    Ok(entry)
+}

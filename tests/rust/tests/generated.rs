@@ -1,0 +1,88 @@
+//! What is generated undamaged is accepted by the reference, so that damage alone makes refusals.
+use skogmund_tests::generate::queues::{queue, record, spelled};
+use skogmund_tests::generate::sections::{self, Size};
+use skogmund_tests::generate::Rng;
+use skogmund_tests::reference::shelf::Filed;
+use skogmund_tests::reference::{self, listing::listing_and_fates};
+
+const TIMES: u64 = 5_000;
+
+fn accepted(section: u8, s: &[u8]) {
+    let read = reference::read(section, s);
+    assert!(read.is_ok(), "{read:?}: {s:02x?}");
+}
+
+#[test]
+fn sections_are_accepted() {
+    for input in 0..TIMES {
+        let rng = &mut Rng::of_input(1, input);
+        let size = Size::some(rng);
+        accepted(1, &sections::section1(rng));
+        accepted(3, &sections::section3(rng, size));
+        accepted(4, &sections::section4(rng, size));
+    }
+}
+
+#[test]
+fn large_sections_are_accepted() {
+    for input in 0..TIMES / 20 {
+        let rng = &mut Rng::of_input(2, input);
+        accepted(3, &sections::section3(rng, Size::Large));
+        accepted(4, &sections::section4(rng, Size::Large));
+    }
+}
+
+#[test]
+fn packed_values_go_together() {
+    for input in 0..TIMES {
+        let rng = &mut Rng::of_input(3, input);
+        let (five, seven) = sections::packed(rng);
+        let values = reference::octets::number(&five, 6, 9) as usize;
+        assert!(reference::unpack(&five, &seven, values).is_ok());
+    }
+}
+
+#[test]
+fn fields_keep_their_time() {
+    let times = [
+        [2_024, 3, 7, 0, 0, 0],
+        [-327_692_766, 12, 31, 23, 59, 59],
+        [327_702_767, 1, 1, 0, 0, 0],
+        [65_534, 2, 31, 1, 2, 3],
+        [-5, 1, 1, 0, 0, 0],
+    ];
+    for input in 0..TIMES {
+        let rng = &mut Rng::of_input(4, input);
+        let time = rng.pick(&times);
+        let field = sections::field_at(rng, time, Size::Small);
+        let queue = [
+            spelled(63),
+            spelled(1),
+            spelled(field.concat().len() as u64),
+            field.concat(),
+        ];
+        let (text, fates) = listing_and_fates(&queue.concat());
+        let fate = fates.expect("a queue")[0];
+        let [year, month, day, hour, minute, second] = time;
+        let line = format!("\n63 {year} {month} {day} {hour} {minute} {second} 0 ");
+        let other_calendar = fate.is_err_and(|refusal| refusal.number == 17);
+        assert!(
+            other_calendar || fate == Ok(Filed::Kept) && text.contains(&line),
+            "{text}"
+        );
+    }
+}
+
+#[test]
+fn same_seed_same_queue() {
+    for input in 0..100 {
+        let made = || queue(&mut Rng::of_input(5, input));
+        assert_eq!(made(), made());
+    }
+}
+
+#[test]
+fn a_record_begins_with_three_numbers() {
+    let rng = &mut Rng::of_input(6, 0);
+    assert_eq!(record(rng, 7, 300, &[1, 2]), [7, 0xac, 2, 2, 1, 2]);
+}
