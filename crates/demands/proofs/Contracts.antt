@@ -1,9 +1,7 @@
 -- What the contracts say, as the checker reads them from the code (`Learnt`): the equations over which the demands are stated. A weaker
 -- `ensures` would not give them. (`filing::file`, which is proved by a walk, has no such reading; its contract is `EveryEntryEnds`'.)
 -- Assumes nothing.
-use Prim.Native.Nat.{ℕ}
 use mathlib.Core.Path.{_≡_}
-use mathlib.Core.List.{List}
 use denote.Ref.{now}
 use Rattle.identification.specs.Section1 as one
 use Rattle.grid.specs.Section3 as three

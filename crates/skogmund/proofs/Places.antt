@@ -1,14 +1,12 @@
 -- The place of a refusal of unpacking is within section 5, so that a refusal's number has room for it.
 -- Assumes nothing.
-use Prim.Native.Nat.{ℕ, _+_, _≤_, _<_}
+use Prim.Native.Nat.{ℕ, _+_, _≤_}
 use native.Mathlib.Omega.{arith}
-use mathlib.Core.Path.{_≡_, refl, sym, subst}
-use mathlib.Core.Bool.{Bool, true, false, cond, not}
+use mathlib.Core.Path.{_≡_, sym, subst}
+use mathlib.Core.Bool.{Bool, true, false, cond}
 use mathlib.Core.List.{List, [], _∷_}
-use lib.Dec.{eqb}
-use lib.ListN.{length}
-use Rattle.layout.specs.Fields.{Value, Field, FieldAt, width, allowed, widthOf, placed, after, lowestBad, rawAt}
-use Rattle.layout.specs.Outcomes.{Outcome, refused, read, andThen, Reason, reason, firstOf, headReasons}
+use Rattle.layout.specs.Fields.{Field, width, allowed, widthOf, placed, lowestBad, rawAt}
+use Rattle.layout.specs.Outcomes.{Outcome, refused, read, andThen, Reason, firstOf, headReasons}
 use Rattle.layout.specs.declared.Refusal.{Refusal}
 use Rattle.packing.specs.Section5.{fields₅, outcome₅, asSimple, valuesAt, bitsAt}
 use Rattle.packing.specs.Section7.{outcome₇}

@@ -7,7 +7,7 @@ ghost use Rattle.skogmund.specs.Entries.{codeOf, coded, Listed};
 use layout::Refusal;
 use packing::Unpacked;
 
-// A row that has no room, and a text that doesn't fit: 18, of no section and no place.
+// 18 x 2^40: 18, of no section and no place.
 const NO_ROOM: u64 = 19791209299968;
 
 #[no_mangle]
