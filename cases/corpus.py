@@ -24,17 +24,27 @@ def resigned(value, bits):
     return value if value is None or value < top else -(value - top)
 
 
+def year_and_offset(k):
+    """The decoder has the offset by sign and magnitude, and the year beside it unsigned."""
+    offset = k.get("numberOfTensOfThousandsOfYearsOfOffset")
+    return (k["year"] if offset is None else resigned(k["year"], 16)), offset
+
+
+def real_year(k):
+    year, offset = year_and_offset(k)
+    return year + 10000 * (offset or 0)
+
+
 def section1(k):
     template = k.get("calendarIdentificationTemplateNumber")
-    offset = k.get("numberOfTensOfThousandsOfYearsOfOffset")
-    year = k["year"] if offset is None else resigned(k["year"], 16)
+    year, offset = year_and_offset(k)
     words = [("length", k["section1Length"]), ("number", 1), ("centre", k["centre"]), ("sub_centre", k["subCentre"]),
              ("master_version", k["tablesVersion"]), ("local_version", k["localTablesVersion"]),
              ("significance", k["significanceOfReferenceTime"]), ("year", year)]
     words += [(name, k[name]) for name in ("month", "day", "hour", "minute", "second")]
     words += [("status", k["productionStatusOfProcessedData"]), ("data_type", k["typeOfProcessedData"])]
     words += [("template", "none" if template is None else template), ("calendar", k.get("typeOfCalendar", "none")),
-              ("offset", "none" if offset is None else offset), ("real_year", year + 10000 * (offset or 0))]
+              ("offset", "none" if offset is None else offset), ("real_year", real_year(k))]
     return "read " + " ".join(f"{name} {value}" for name, value in words)
 
 

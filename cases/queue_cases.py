@@ -264,8 +264,17 @@ case("all 64 slots, and each of them again", queue_of(*(filed(slot, 1000 - slot)
 # Messages that an independent decoder has read: by its keys three have template 4.67, which is not listed, and one another calendar.
 MESSAGES = [[bytes.fromhex(s) for s in field["sections"]] for field in corpus.FIELDS]
 FILED = [k["productDefinitionTemplateNumber"] != 67 and k.get("typeOfCalendar", 0) == 0 for k in (field["keys"] for field in corpus.FIELDS)]
+
+
+def decoded_line(slot, keys):
+    """The line of the listing that the decoder's keys give."""
+    numbers = [slot, corpus.real_year(keys)] + [keys[k] for k in ("month", "day", "hour", "minute", "second")] + [0, keys["productDefinitionTemplateNumber"]]
+    return " ".join(map(str, numbers)) + "\n"
+
+
 case("messages of an independent decoder, a slot to each", queue_of(*(record(slot, None, *message) for slot, message in enumerate(MESSAGES))),
-     f"\nkept {FILED.count(True)} passed 0 refused {FILED.count(False)}\n")
+     "".join(decoded_line(slot, field["keys"]) for slot, field in enumerate(corpus.FIELDS) if FILED[slot])
+     + f"kept {FILED.count(True)} passed 0 refused {FILED.count(False)}\n")
 case("messages of an independent decoder, all to one slot", queue_of(*(record(0, None, *message) for message in MESSAGES)), f" refused {FILED.count(False)}\n")
 
 
