@@ -8,8 +8,9 @@ pub use Rattle.demands.proofs.EveryInput
 pub use Rattle.demands.proofs.EveryEntryEnds
 -- ".. and answers ..": for each answer type, any two answers that the contract allows for an input are one, with what was lent.
 pub use Rattle.demands.proofs.OneAnswer.{one-identification, one-grid, one-product, one-packing, one-data, one-field, one-unpacking, one-filing, one-answer, one-number, one-signed, one-time, one-text}
--- ".. or refuses with a number from document 01.": its table lists the number for the section, and the place is 0 except with 8.
-pub use Rattle.demands.proofs.RefusalNumbers.{identification-refuses, grid-refuses, product-refuses, packing-refuses, data-refuses, unpacking-refuses, field-refuses, filing-refuses, record-refuses, queue-refuses, queue-number, head-number}
+-- ".. or refuses with a number from document 01.": its table lists the number for the section, and the place is 0 except with 8,
+-- and then an octet that a section can have.
+pub use Rattle.refusals.proofs.RefusalNumbers.{identification-refuses, grid-refuses, product-refuses, packing-refuses, data-refuses, unpacking-refuses, field-refuses, filing-refuses, record-refuses, queue-refuses, queue-number, head-number}
 -- "A refusal changes no shelf and no lent buffer.": the theorems of this file.
 use Prim.Native.Nat.{ℕ}
 use mathlib.Core.Path.{_≡_, refl, sym, ap, _∙_}

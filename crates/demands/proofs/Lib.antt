@@ -1,7 +1,6 @@
 pub mod Starred
 pub mod EveryInput
 pub mod EveryEntryEnds
-pub mod RefusalNumbers
 pub mod OneAnswer
 pub mod Demand1
 pub mod Demand2

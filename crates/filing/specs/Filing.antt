@@ -7,7 +7,7 @@ use lib.ListN.{getD}
 use lib.Dec.{ltb, eqb}
 use lib.IntN.{natAbs}
 use Rattle.octets.specs.Octets.{part}
-use Rattle.layout.specs.Fields.{Value, none, missing, is, wholeIn, naturalIn}
+use Rattle.layout.specs.Fields.{Value, none, missing, is, which, wholeIn, naturalIn}
 use Rattle.field.specs.Field.{FieldOutcome, refusedField, readField, fieldOutcome}
 use Rattle.card.specs.declared.Card.{Card}
 use Rattle.shelf.specs.Shelves.{putOf}
@@ -54,6 +54,7 @@ abbrev pub foreign : Value → Bool
 foreign none = false
 foreign missing = false
 foreign (is z) = not (eqb (natAbs z) 0)
+foreign (which n) = false
 
 abbrev pub foreignCalendar : List Value → Bool
 foreignCalendar one = foreign (valueAt one 16)

@@ -5,7 +5,7 @@ use mathlib.Core.List.{List, [], _∷_, _++_, map}
 use lib.ListN.{length, getD}
 use lib.IntN.{ℤ, pos}
 use Rattle.octets.specs.Octets.{digits, allOnes}
-use Rattle.layout.specs.Fields.{Value, none, missing, is}
+use Rattle.layout.specs.Fields.{Value, none, missing, is, which}
 use Rattle.layout.specs.Outcomes.{Outcome, refused, read}
 use Rattle.layout.specs.Examples.{Example}
 use Rattle.grid.specs.Section3.{outcome₃, list₃}
@@ -40,6 +40,7 @@ abbrev pub pointsIn : Value → List ℤ
 pointsIn none = []
 pointsIn missing = []
 pointsIn (is points) = points ∷ []
+pointsIn (which n) = []
 
 abbrev pub pointsRead : Outcome → List ℤ
 pointsRead (refused number section place) = []

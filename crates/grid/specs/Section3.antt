@@ -6,7 +6,7 @@ use mathlib.Core.Bool.{Bool, not, cond, _&&_, _||_}
 use lib.ListN.{length, drop}
 use lib.Dec.{ltb, leb, eqb}
 use Rattle.octets.specs.Octets.{beAt, allOnes}
-use Rattle.layout.specs.Fields.{Value, none, is, plain, unsigned, Field, held, shown, between, raw, ranged, signedPresent, optional, nonzeroOrMissing, lacking, tag, after, badPlace, valuesOf}
+use Rattle.layout.specs.Fields.{Value, none, is, which, plain, unsigned, Field, held, shown, between, raw, ranged, signedPresent, optional, nonzeroOrMissing, lacking, tag, after, badPlace, valuesOf}
 use Rattle.layout.specs.Outcomes.{Outcome, refused, read, refusedBy, Reason, reason, badField, firstOf, headReasons}
 use Rattle.layout.specs.Missing.{in32}
 use Rattle.layout.specs.declared.Refusal.{Refusal}
@@ -230,10 +230,10 @@ abbrev pub noPoleIn : List Value
 noPoleIn = none ∷ none ∷ none ∷ []
 
 unfoldable pub polesIn : Poles → List Value
-polesIn noPoles = plain 0 ∷ (noPoleIn ++ noPoleIn)
-polesIn (isRotated x) = plain 1 ∷ (poleIn x ++ noPoleIn)
-polesIn (isStretched x) = plain 2 ∷ (noPoleIn ++ poleIn x)
-polesIn (isBoth x y) = plain 3 ∷ (poleIn x ++ poleIn y)
+polesIn noPoles = which 0 ∷ (noPoleIn ++ noPoleIn)
+polesIn (isRotated x) = which 1 ∷ (poleIn x ++ noPoleIn)
+polesIn (isStretched x) = which 2 ∷ (noPoleIn ++ poleIn x)
+polesIn (isBoth x y) = which 3 ∷ (poleIn x ++ poleIn y)
 
 unfoldable pub valuesIn : Grid → List Value
 valuesIn x =

@@ -5,7 +5,7 @@ use mathlib.Core.Path.{_≡_, refl, ap, sym, _∙_}
 use mathlib.Core.List.{List}
 use lib.ListN.{getD}
 use lib.IntN.{natAbs}
-use Rattle.layout.specs.Fields.{Value, none, missing, is, wholeIn, naturalIn}
+use Rattle.layout.specs.Fields.{Value, none, missing, is, which, wholeIn, naturalIn}
 use Rattle.layout.specs.Outcomes.{Outcome, refused, read}
 use Rattle.layout.specs.Time.{timeIn}
 use Rattle.layout.proofs.Untold.{toTime, told-back}
@@ -26,16 +26,19 @@ toNumber : Value → TemplateNumber
 toNumber none = noNumber
 toNumber missing = noNumber
 toNumber (is z) = isNumber (natAbs z)
+toNumber (which n) = noNumber
 
 toCalendar : Value → CalendarCode
 toCalendar none = noCalendar
 toCalendar missing = noCalendar
 toCalendar (is z) = isCalendar (natAbs z)
+toCalendar (which n) = noCalendar
 
 toOffset : Value → YearOffset
 toOffset none = noOffset
 toOffset missing = noOffset
 toOffset (is z) = isOffset z
+toOffset (which n) = noOffset
 
 number-back : (x : TemplateNumber) → toNumber (numberIn x) ≡ x
 unfolding toNumber

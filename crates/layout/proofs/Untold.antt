@@ -5,7 +5,7 @@ use mathlib.Core.List.{List}
 use Prim.Native.Nat.{ℕ, _+_}
 use lib.ListN.{getD}
 use lib.IntN.{natAbs}
-use Rattle.layout.specs.Fields.{Value, none, missing, is, naturalIn}
+use Rattle.layout.specs.Fields.{Value, none, missing, is, which, naturalIn}
 use Rattle.layout.specs.Missing.{in32, inSigned}
 use Rattle.layout.specs.Time.{timeIn}
 use Rattle.layout.specs.declared.Time.{Time}
@@ -19,6 +19,7 @@ abbrev pub to32 : Value → U32OrMissing
 to32 none = no32
 to32 missing = no32
 to32 (is z) = is32 (natAbs z)
+to32 (which n) = no32
 
 pub back32 : (x : U32OrMissing) → to32 (in32 x) ≡ x
 back32 no32 = refl
@@ -28,6 +29,7 @@ abbrev pub toSigned : Value → I32OrMissing
 toSigned none = noSigned
 toSigned missing = noSigned
 toSigned (is z) = isSigned z
+toSigned (which n) = noSigned
 
 pub backSigned : (x : I32OrMissing) → toSigned (inSigned x) ≡ x
 backSigned noSigned = refl

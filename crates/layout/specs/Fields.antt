@@ -10,11 +10,12 @@ use Rattle.octets.specs.Octets.{beAt, part, signOf, allOnes}
 
 -- ---- values
 
--- what a field says: a whole number, or that it is missing; or that the template has no such field
+-- what a field says: a whole number, or that it is missing; or that the template has no such field; or which part follows, which no octets say
 pub data Value : Type 0 where
   none : Value
   missing : Value
   is : ℤ → Value
+  which : ℕ → Value
 
 abbrev pub plain : ℕ → Value
 plain x = is (pos x)
@@ -24,6 +25,7 @@ abbrev pub wholeIn : Value → ℤ
 wholeIn none = pos 0
 wholeIn missing = pos 0
 wholeIn (is z) = z
+wholeIn (which n) = pos n
 
 abbrev pub naturalIn : Value → ℕ
 naturalIn v = natAbs (wholeIn v)
@@ -111,7 +113,7 @@ abbrev pub lacking : Field
 lacking = said none
 
 abbrev pub tag : ℕ → Field
-tag n = said (plain n)
+tag n = said (which n)
 
 -- ---- fields one after the other
 

@@ -5,7 +5,7 @@ use mathlib.Core.Path.{_≡_, refl, ap, sym, _∙_}
 use mathlib.Core.List.{List, _++_}
 use lib.ListN.{drop, getD}
 use lib.IntN.{natAbs}
-use Rattle.layout.specs.Fields.{Value, none, missing, is, wholeIn, naturalIn}
+use Rattle.layout.specs.Fields.{Value, none, missing, is, which, wholeIn, naturalIn}
 use Rattle.layout.specs.Outcomes.{Outcome, refused, read}
 use Rattle.layout.specs.Time.{timeIn}
 use Rattle.layout.proofs.Untold.{to32, back32, toSigned, backSigned, toTime, told-back}
@@ -65,6 +65,7 @@ toInterval vs = by (getD vs 0 none)
     by : Value → Interval
     by none = noInterval
     by missing = noInterval
+    by (which n) = noInterval
     by (is year) =
         Ends
         (record {

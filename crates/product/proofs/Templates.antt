@@ -7,7 +7,7 @@ use mathlib.Core.Path.{_≡_, refl, _∙_}
 use mathlib.Core.List.{List, [], _∷_, _++_}
 use mathlib.Core.Bool.{Bool, true, false, cond}
 use Rattle.octets.specs.Octets.{part}
-use Rattle.layout.specs.Fields.{Value, none, plain, widthOf, placed, after, lowestBad, badPlace, valuesOf}
+use Rattle.layout.specs.Fields.{Value, none, which, widthOf, placed, after, lowestBad, badPlace, valuesOf}
 use Rattle.layout.specs.Shown.{shownOf}
 use Rattle.layout.specs.Time.{time}
 use Rattle.layout.proofs.Blocks.{width-append, values-meet, bad-meet, moved}
@@ -99,7 +99,7 @@ both-scaled end s p q = λ i. (p ∙ moved end 3 scaled s) i ++ (q ∙ moved end
 
 -- ---- every template
 
-front-values : (kind : PartKind) (s : List ℕ) → valuesOf (after 0 (front kind)) s ≡ valuesOf (after 0 head) s ++ (plain (partTag kind) ∷ (valuesOf (after 9 parameter) s ++ valuesOf (after 11 (ahead kind)) s))
+front-values : (kind : PartKind) (s : List ℕ) → valuesOf (after 0 (front kind)) s ≡ valuesOf (after 0 head) s ++ (which (partTag kind) ∷ (valuesOf (after 9 parameter) s ++ valuesOf (after 11 (ahead kind)) s))
 unfolding valuesOf placed front head parameter
 front-values kind s = rw (moved 0 11 (ahead kind) s)
 
@@ -127,7 +127,7 @@ module _ (kind : PartKind) (timed : Bool) (n nc nv : ℕ) where
       (rw (values-meet (frontEnd kind + 23) (behind kind), behind-facts kind .0, tail-values)))
 
   -- what a record holds, block by block
-  pub values-are : (s : List ℕ) → valuesOf (after 0 (fields₄ kind timed n nc nv)) s ≡ valuesOf (after 0 head) s ++ (plain (partTag kind) ∷ (valuesOf (after 9 parameter) s ++ (valuesOf (after 11 (ahead kind)) s ++ (valuesOf (after (frontEnd kind) common) s ++ (valuesOf (after (frontEnd kind + 23) (behind kind)) s ++ cond timed (valuesOf (after (partEnd kind) interval) s) (none ∷ []))))))
+  pub values-are : (s : List ℕ) → valuesOf (after 0 (fields₄ kind timed n nc nv)) s ≡ valuesOf (after 0 head) s ++ (which (partTag kind) ∷ (valuesOf (after 9 parameter) s ++ (valuesOf (after 11 (ahead kind)) s ++ (valuesOf (after (frontEnd kind) common) s ++ (valuesOf (after (frontEnd kind + 23) (behind kind)) s ++ cond timed (valuesOf (after (partEnd kind) interval) s) (none ∷ []))))))
   unfolding valuesOf placed head parameter
   values-are s = rw (after-front s, front-values kind s)
 

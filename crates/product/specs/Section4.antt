@@ -7,7 +7,7 @@ use mathlib.Core.Bool.{Bool, true, false, not, cond, _&&_}
 use lib.ListN.{length}
 use lib.Dec.{ltb, eqb}
 use Rattle.octets.specs.Octets.{beAt}
-use Rattle.layout.specs.Fields.{Value, plain, Field, lacking, tag, shown, after, badPlace, valuesOf}
+use Rattle.layout.specs.Fields.{Value, which, plain, Field, lacking, tag, shown, after, badPlace, valuesOf}
 use Rattle.layout.specs.Outcomes.{Outcome, refused, read, refusedBy, Reason, reason, badField, firstOf, headReasons}
 use Rattle.layout.specs.declared.Refusal.{Refusal}
 use Rattle.product.specs.Blocks.{head, parameter, parameterIn, processIn, forecastIn, surfaceIn, common, ensemble, ensembleIn, cluster, clusterIn, probability, probabilityIn, aerosol, aerosolIn, interval, intervalIn}
@@ -196,7 +196,7 @@ valuesIn x =
     ∷ plain (x .number)
     ∷ plain (x .coordinates)
     ∷ plain (x .template)
-    ∷ plain (tagIn (x .part))
+    ∷ which (tagIn (x .part))
     ∷ (parameterIn (x .parameter)
     ++ (aheadIn (x .part)
     ++ ((processIn (x .process) ++ (forecastIn (x .forecast) ++ (surfaceIn (x .«first_surface») ++ surfaceIn (x .«second_surface»))))

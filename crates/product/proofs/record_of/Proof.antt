@@ -1,7 +1,7 @@
 use Rattle.octets.proofs.Free.{free}
 use mathlib.Core.List.{_∷_, _++_}
 use native.Mathlib.Omega.{arith}
-use Rattle.layout.specs.Fields.{plain, placed, valuesOf}
+use Rattle.layout.specs.Fields.{which, plain, placed, valuesOf}
 use denote.Ref.{now}
 use Rattle.product.specs.Blocks.{head}
 use Rattle.product.specs.Section4.{valuesIn}
@@ -41,7 +41,7 @@ returns c =
     ∷ plain (first .before .before .before .u8-at .ensures i)
     ∷ plain (first .before .before .u16-at .ensures i)
     ∷ plain (first .before .u16-at2 .ensures i)
-    ∷ plain (part .tags i)
+    ∷ which (part .tags i)
     ∷ (first .read-parameter .ensures i ++ (part .leads i ++ (common-is i ++ (part .follows i ++ interval-is i)))))
 
 pub record-of-spec : {M : Type 1} → statement M

@@ -4,7 +4,7 @@ use borrow.Author.Needs.{needs}
 use mathlib.Core.Path.{sym, ap, _∙_}
 use Rattle.packing.specs.Unpacking.{toldUnpacked}
 use Rattle.skogmund.specs.Entries.{coded}
-use Rattle.skogmund.proofs.Places.{place-small}
+use Rattle.refusals.proofs.RefusalNumbers.{unpacking-refuses}
 use Rattle.skogmund.proofs.skogmund_unpack.Statement.{statement}
 use Rattle.skogmund.proofs.skogmund_unpack.Tie as tie
 
@@ -17,7 +17,7 @@ returns c =
 code-requires : tie.Need-code-requires
 code-requires c κs =
     let u = c .before .before .before .before .before .unpack .ensures in
-    place-small _ _ _ (c .before .answer .given .0 .0) (sym (ap toldUnpacked (c .before .answer .given .1)) ∙ u .answers)
+    unpacking-refuses _ _ _ (c .before .answer .given .0 .0) (sym (ap toldUnpacked (c .before .answer .given .1)) ∙ u .answers) .within
 
 returns-2 : tie.Need-returns-2
 unfolding toldUnpacked

@@ -1,6 +1,7 @@
 -- A refusal that a contract allows has a number, a section and a place as document 01's table has them.
 -- Assumes nothing.
-use Prim.Native.Nat.{ℕ, zero, suc}
+use Prim.Native.Nat.{ℕ, zero, suc, _≤_}
+use native.Mathlib.Omega.{arith}
 use mathlib.Core.Path.{_≡_, refl, sym, subst}
 use mathlib.Core.List.{List, [], _∷_}
 use mathlib.Core.Bool.{Bool, true, false, not, cond, true≢false}
@@ -41,7 +42,12 @@ use Rattle.queue.specs.declared.Body.{Body}
 use Rattle.queue.specs.declared.Body.the-variants.{Five, NotFive}
 use Rattle.queue.specs.declared.QueueAnswer.{QueueAnswer}
 use Rattle.queue.specs.declared.QueueAnswer.the-variants.{Filed as filedAll, Refused as refusedAll}
-use Rattle.demands.specs.Demands.{Row, oneOf, numbersOf, Listed, table₁, table₃, table₄, table₅, table₇, unpackTable, fieldTable, filingTable, recordTable, queueTable}
+use Rattle.refusals.proofs.BadPlaces.{bad₁, bad₃, bad₄, bad₅}
+use Rattle.refusals.specs.Refusals.{Row, oneOf, numbersOf, Listed, table₁, table₃, table₄, table₅, table₇, unpackTable, fieldTable, filingTable, recordTable, queueTable}
+
+-- a place of 0
+none : 0 ≤ 65536
+none = omega arith
 
 -- ---- one table within another
 
@@ -80,7 +86,7 @@ one-within large (r ∷ rs) section n w e =
     (λ h e. one-within large rs section n (parts .1) e) e
 
 wider : (large small : List Row) (x : Refusal) → within large small ≡ true → Listed small x → Listed large x
-wider large small x w p = record { listed = one-within large small (x .section) (x .number) w (p .listed); placed = p .placed }
+wider large small x w p = record { listed = one-within large small (x .section) (x .number) w (p .listed); placed = p .placed; within = p .within }
 
 -- ---- outcomes whose refusal, if they are one, is listed
 
@@ -96,12 +102,13 @@ refuses-wider : (large small : List Row) (o : Outcome) → within large small �
 refuses-wider large small (refused number section place) w p = wider large small (record { number = number; section = section; place = place }) w p
 refuses-wider large small (read vs) w p = tt
 
--- each reason has a number of the table, and a place if it is 8, and else 0
+-- each reason has a number of the table, and a place of a section's octet if it is 8, and else 0
 unfoldable Right : List Row → ℕ → List Reason → Type 0
 Right table section [] = Unit {0}
 Right table section (r ∷ rs) =
     (oneOf (numbersOf table section) (r .number) ≡ true)
     × (r .holds ≡ true → not (eqb (r .place) 0) ≡ eqb (r .number) 8)
+    × (r .place ≤ 65536)
     × Right table section rs
 
 first-refuses : (table : List Row) (section : ℕ) (rs : List Reason) (o : Outcome) → Right table section rs → Refuses table o → Refuses table (firstOf section rs o)
@@ -109,7 +116,7 @@ unfolding firstOf Right
 first-refuses table section [] o p q = q
 first-refuses table section (r ∷ rs) o p q =
     by-test (λ (t : Bool). Refuses table (cond t (refused (r .number) section (r .place)) (firstOf section rs o))) (r .holds)
-    (λ h. record { listed = p .0; placed = p .1 h }) (λ h. first-refuses table section rs o (p .2) q)
+    (λ h. record { listed = p .0; placed = p .1 h; within = p .2 }) (λ h. first-refuses table section rs o (p .3) q)
 
 -- 1 to 4, the reasons of every section's head
 abbrev headNumbers : List ℕ
@@ -120,7 +127,7 @@ unfolding Right
 head-refuses table section s o a =
     let listed : (n : ℕ) → oneOf headNumbers n ≡ true → oneOf (numbersOf table section) n ≡ true = λ n e. all-of (numbersOf table section) headNumbers n a e in
     first-refuses table section (headReasons section s) o
-    (listed 1 refl, λ h. refl, (listed 2 refl, λ h. refl, (listed 3 refl, λ h. refl, (listed 4 refl, λ h. refl, tt))))
+    (listed 1 refl, λ h. refl, none, (listed 2 refl, λ h. refl, none, (listed 3 refl, λ h. refl, none, (listed 4 refl, λ h. refl, none, tt))))
 
 -- ---- section 1
 
@@ -128,14 +135,14 @@ as-template₁ : (template : Template₁) (s : List ℕ) → Refuses table₁ (a
 unfolding asTemplate₁ Right
 as-template₁ template s =
     first-refuses table₁ 1 (templateReasons₁ template s) (read (values₁ template s))
-    (refl, λ h. refl, (refl, λ h. h, (refl, λ h. refl, tt))) tt
+    (refl, λ h. refl, none, (refl, λ h. h, bad₁ template s, (refl, λ h. refl, none, tt))) tt
 
 by-number₁ : (n : ℕ) (s : List ℕ) → Refuses table₁ (byNumber n s)
 unfolding byNumber
 by-number₁ zero s = as-template₁ Calendar s
 by-number₁ (suc zero) s = as-template₁ Offset s
 by-number₁ (suc (suc zero)) s = as-template₁ CalendarAndOffset s
-by-number₁ (suc (suc (suc n))) s = record { listed = refl; placed = refl }
+by-number₁ (suc (suc (suc n))) s = record { listed = refl; placed = refl; within = none }
 
 by-template₁ : (s : List ℕ) → Refuses table₁ (byTemplate₁ s)
 unfolding byTemplate₁
@@ -147,7 +154,7 @@ refuses₁ : (s : List ℕ) → Refuses table₁ (outcome₁ s)
 unfolding outcome₁ Right
 refuses₁ s =
     head-refuses table₁ 1 s (firstOf 1 (lengthReasons₁ s) (byTemplate₁ s)) refl
-    (first-refuses table₁ 1 (lengthReasons₁ s) (byTemplate₁ s) (refl, λ h. refl, (refl, λ h. refl, tt)) (by-template₁ s))
+    (first-refuses table₁ 1 (lengthReasons₁ s) (byTemplate₁ s) (refl, λ h. refl, none, (refl, λ h. refl, none, tt)) (by-template₁ s))
 
 pub identification-refuses : (s : List ℕ) (x : Refusal) → told₁ (Refused₁ x) ≡ outcome₁ s → Listed table₁ x
 unfolding told₁
@@ -160,10 +167,10 @@ unfolding outcome₃ asTemplate₃ fitting Right
 refuses₃ s =
     let template = templateOf₃ s in
     head-refuses table₃ 3 s (firstOf 3 (numberReasons s) (asTemplate₃ template s)) refl
-    (first-refuses table₃ 3 (numberReasons s) (asTemplate₃ template s) (refl, λ h. refl, (refl, λ h. refl, tt))
-    (first-refuses table₃ 3 (templateReasons₃ template s) (fitting template s) (refl, λ h. refl, (refl, λ h. h, tt))
+    (first-refuses table₃ 3 (numberReasons s) (asTemplate₃ template s) (refl, λ h. refl, none, (refl, λ h. refl, none, tt))
+    (first-refuses table₃ 3 (templateReasons₃ template s) (fitting template s) (refl, λ h. refl, none, (refl, λ h. h, bad₃ template _ s, tt))
     (first-refuses table₃ 3 (fittingReasons template s) (read (values₃ template s))
-    (refl, λ h. refl, (refl, λ h. refl, (refl, λ h. refl, (refl, λ h. refl, tt)))) tt)))
+    (refl, λ h. refl, none, (refl, λ h. refl, none, (refl, λ h. refl, none, (refl, λ h. refl, none, tt)))) tt)))
 
 pub grid-refuses : (s : List ℕ) (x : Refusal) → told₃ (Refused₃ x) ≡ outcome₃ s → Listed table₃ x
 unfolding told₃
@@ -173,17 +180,17 @@ grid-refuses s x e = refusal-listed table₃ (outcome₃ s) x (refuses₃ s) e
 
 by-template₄ : (template : Template₄) (s : List ℕ) → Refuses table₄ (byTemplate₄ template s)
 unfolding byTemplate₄ asTemplate₄ Right
-by-template₄ NotListed s = record { listed = refl; placed = refl }
+by-template₄ NotListed s = record { listed = refl; placed = refl; within = none }
 by-template₄ (isListed kind timed) s =
     first-refuses table₄ 4 (templateReasons₄ kind timed s) (read (values₄ kind timed s))
-    (refl, λ h. refl, (refl, λ h. h, (refl, λ h. refl, (refl, λ h. refl, tt)))) tt
+    (refl, λ h. refl, none, (refl, λ h. h, bad₄ kind timed _ _ _ s, (refl, λ h. refl, none, (refl, λ h. refl, none, tt)))) tt
 
 refuses₄ : (s : List ℕ) → Refuses table₄ (outcome₄ s)
 unfolding outcome₄ Right
 refuses₄ s =
     let template = templateOf₄ (beAt s 8 2) in
     head-refuses table₄ 4 s (firstOf 4 (lengthReasons₄ s) (byTemplate₄ template s)) refl
-    (first-refuses table₄ 4 (lengthReasons₄ s) (byTemplate₄ template s) (refl, λ h. refl, tt) (by-template₄ template s))
+    (first-refuses table₄ 4 (lengthReasons₄ s) (byTemplate₄ template s) (refl, λ h. refl, none, tt) (by-template₄ template s))
 
 pub product-refuses : (s : List ℕ) (x : Refusal) → told₄ (Refused₄ x) ≡ outcome₄ s → Listed table₄ x
 unfolding told₄
@@ -196,15 +203,15 @@ unfolding outcome₅ asSimple Right
 refuses₅ s =
     let values = read (valuesOf (after 0 fields₅) s) in
     head-refuses table₅ 5 s (firstOf 5 (reasons₅ s) (asSimple s)) refl
-    (first-refuses table₅ 5 (reasons₅ s) (asSimple s) (refl, λ h. refl, (refl, λ h. refl, tt))
-    (first-refuses table₅ 5 (simpleReasons s) values (refl, λ h. refl, (refl, λ h. h, (refl, λ h. refl, tt))) tt))
+    (first-refuses table₅ 5 (reasons₅ s) (asSimple s) (refl, λ h. refl, none, (refl, λ h. refl, none, tt))
+    (first-refuses table₅ 5 (simpleReasons s) values (refl, λ h. refl, none, (refl, λ h. h, bad₅ s, (refl, λ h. refl, none, tt))) tt))
 
 refuses₇ : (n bits : ℕ) (s : List ℕ) → Refuses table₇ (outcome₇ n bits s)
 unfolding outcome₇ Right
 refuses₇ n bits s =
     let values = read (valuesOf (after 0 (fields₇ n bits)) s) in
     head-refuses table₇ 7 s (firstOf 7 (reasons₇ n bits s) values) refl
-    (first-refuses table₇ 7 (reasons₇ n bits s) values (refl, λ h. refl, tt) tt)
+    (first-refuses table₇ 7 (reasons₇ n bits s) values (refl, λ h. refl, none, tt) tt)
 
 then-refuses : (table : List Row) (o next : Outcome) → Refuses table o → Refuses table next → Refuses table (andThen o next)
 unfolding andThen
@@ -218,7 +225,7 @@ unpack-refuses five seven row =
     let last = firstOf 0 (reason 18 (not (eqb (length row) n)) ∷ []) (read (plain n ∷ [])) in
     then-refuses unpackTable (outcome₅ five) (andThen (outcome₇ n (bitsAt five) seven) last) (refuses-wider unpackTable table₅ (outcome₅ five) refl (refuses₅ five))
     (then-refuses unpackTable (outcome₇ n (bitsAt five) seven) last (refuses-wider unpackTable table₇ (outcome₇ n (bitsAt five) seven) refl (refuses₇ n (bitsAt five) seven))
-    (first-refuses unpackTable 0 (reason 18 (not (eqb (length row) n)) ∷ []) (read (plain n ∷ [])) (refl, λ h. refl, tt) tt))
+    (first-refuses unpackTable 0 (reason 18 (not (eqb (length row) n)) ∷ []) (read (plain n ∷ [])) (refl, λ h. refl, none, tt) tt))
 
 pub packing-refuses : (s : List ℕ) (x : Refusal) → told₅ (Refused₅ x) ≡ outcome₅ s → Listed table₅ x
 unfolding told₅
@@ -253,7 +260,7 @@ refuses-field s1 s3 s4 s5 s7 =
     (λ three. onward-refuses (outcome₄ s4) _ (refuses-wider fieldTable table₄ (outcome₄ s4) refl (refuses₄ s4))
     (λ four. onward-refuses (outcome₅ s5) _ (refuses-wider fieldTable table₅ (outcome₅ s5) refl (refuses₅ s5))
     (λ five. onward-refuses (firstOf 5 fourteen seven) _
-    (first-refuses fieldTable 5 fourteen seven (refl, λ h. refl, tt) (refuses-wider fieldTable table₇ seven refl (refuses₇ (valuesAt s5) (bitsAt s5) s7)))
+    (first-refuses fieldTable 5 fourteen seven (refl, λ h. refl, none, tt) (refuses-wider fieldTable table₇ seven refl (refuses₇ (valuesAt s5) (bitsAt s5) s7)))
     (λ vs. tt)))))
 
 pub field-refuses : (s1 s3 s4 s5 s7 : List ℕ) (x : Refusal) → told (refusedAsField x) ≡ fieldOutcome s1 s3 s4 s5 s7 → Listed fieldTable x
@@ -272,13 +279,13 @@ of-field-refuses (refusedField number section place) issue s4 p =
     wider filingTable fieldTable (record { number = number; section = section; place = place }) refl p
 of-field-refuses (readField one three four five) issue s4 p =
     by-test (λ (t : Bool). RefusesFiling filingTable (cond t (refusedFiling 17 1 0) (accepted (cardOf one issue s4)))) (foreignCalendar one)
-    (λ h. record { listed = refl; placed = refl }) (λ h. tt)
+    (λ h. record { listed = refl; placed = refl; within = none }) (λ h. tt)
 
 refuses-filing : (slot : ℕ) (issue : Issue) (s1 s3 s4 s5 s7 : List ℕ) → RefusesFiling filingTable (filingOf slot issue s1 s3 s4 s5 s7)
 unfolding filingOf
 refuses-filing slot issue s1 s3 s4 s5 s7 =
     by-test (λ (t : Bool). RefusesFiling filingTable (cond t (refusedFiling 16 0 0) (ofField (fieldOutcome s1 s3 s4 s5 s7) (issueOf issue) s4))) (ltb 63 slot)
-    (λ h. record { listed = refl; placed = refl }) (λ h. of-field-refuses (fieldOutcome s1 s3 s4 s5 s7) (issueOf issue) s4 (refuses-field s1 s3 s4 s5 s7))
+    (λ h. record { listed = refl; placed = refl; within = none }) (λ h. of-field-refuses (fieldOutcome s1 s3 s4 s5 s7) (issueOf issue) s4 (refuses-field s1 s3 s4 s5 s7))
 
 of-record : (f : Filing) → RefusesFiling filingTable f → RefusesFiling recordTable f
 of-record (refusedFiling number section place) p = wider recordTable filingTable (record { number = number; section = section; place = place }) refl p
@@ -286,7 +293,7 @@ of-record (accepted card) p = tt
 
 body-refuses : (slot : ℕ) (issue : Issue) (s : List ℕ) (body : Body) → RefusesFiling recordTable (bodyFiling slot issue s body)
 unfolding bodyFiling
-body-refuses slot issue s NotFive = record { listed = refl; placed = refl }
+body-refuses slot issue s NotFive = record { listed = refl; placed = refl; within = none }
 body-refuses slot issue s (Five e) =
     let one = between s 0 (e .one) in
     let three = between s (e .one) (e .three) in
@@ -330,9 +337,9 @@ unfolding queueFiled queueRefusal
 refuses-queue shelf q = by-tests (ltb 65536 (length q)) (cutOf q .whole)
   where
     by-tests : (long whole : Bool) → RefusesQueue (cond (eqb (cond long 2 (cond whole 0 19)) 0) (acceptedQueue (recordsFiled (fromStart shelf) (cutOf q .records))) (refusedQueue shelf (cond long 2 (cond whole 0 19))) .answer)
-    by-tests true whole = record { listed = refl; placed = refl }
+    by-tests true whole = record { listed = refl; placed = refl; within = none }
     by-tests false true = tt
-    by-tests false false = record { listed = refl; placed = refl }
+    by-tests false false = record { listed = refl; placed = refl; within = none }
 
 pub queue-refuses : (shelf : Shelf) (q : List ℕ) (x : Refusal) → queueFiled shelf q .answer ≡ refusedAll x → Listed queueTable x
 queue-refuses shelf q x e = subst (λ (a : QueueAnswer). RefusesQueue a) e (refuses-queue shelf q)

@@ -1,0 +1,2 @@
+pub mod BadPlaces
+pub mod RefusalNumbers
