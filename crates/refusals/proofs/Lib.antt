@@ -1,2 +1,3 @@
 pub mod BadPlaces
 pub mod RefusalNumbers
+pub mod OneNumber

@@ -90,7 +90,7 @@ wider large small x w p = record { listed = one-within large small (x .section) 
 
 -- ---- outcomes whose refusal, if they are one, is listed
 
-abbrev Refuses : List Row → Outcome → Type 0
+abbrev pub Refuses : List Row → Outcome → Type 0
 Refuses table (refused number section place) = Listed table (record { number = number; section = section; place = place })
 Refuses table (read vs) = Unit {0}
 
@@ -122,7 +122,7 @@ first-refuses table section (r ∷ rs) o p q =
 abbrev headNumbers : List ℕ
 headNumbers = 1 ∷ 2 ∷ 3 ∷ 4 ∷ []
 
-head-refuses : (table : List Row) (section : ℕ) (s : List ℕ) (o : Outcome) → allOf (numbersOf table section) headNumbers ≡ true → Refuses table o → Refuses table (firstOf section (headReasons section s) o)
+pub head-refuses : (table : List Row) (section : ℕ) (s : List ℕ) (o : Outcome) → allOf (numbersOf table section) headNumbers ≡ true → Refuses table o → Refuses table (firstOf section (headReasons section s) o)
 unfolding Right
 head-refuses table section s o a =
     let listed : (n : ℕ) → oneOf headNumbers n ≡ true → oneOf (numbersOf table section) n ≡ true = λ n e. all-of (numbersOf table section) headNumbers n a e in
@@ -150,7 +150,7 @@ by-template₁ s =
     by-test (λ (t : Bool). Refuses table₁ (cond t (asTemplate₁ noTemplate s) (byNumber (beAt s 22 2) s))) (eqb (length s) 21)
     (λ h. as-template₁ noTemplate s) (λ h. by-number₁ (beAt s 22 2) s)
 
-refuses₁ : (s : List ℕ) → Refuses table₁ (outcome₁ s)
+pub refuses₁ : (s : List ℕ) → Refuses table₁ (outcome₁ s)
 unfolding outcome₁ Right
 refuses₁ s =
     head-refuses table₁ 1 s (firstOf 1 (lengthReasons₁ s) (byTemplate₁ s)) refl
@@ -162,7 +162,7 @@ identification-refuses s x e = refusal-listed table₁ (outcome₁ s) x (refuses
 
 -- ---- section 3
 
-refuses₃ : (s : List ℕ) → Refuses table₃ (outcome₃ s)
+pub refuses₃ : (s : List ℕ) → Refuses table₃ (outcome₃ s)
 unfolding outcome₃ asTemplate₃ fitting Right
 refuses₃ s =
     let template = templateOf₃ s in
@@ -185,7 +185,7 @@ by-template₄ (isListed kind timed) s =
     first-refuses table₄ 4 (templateReasons₄ kind timed s) (read (values₄ kind timed s))
     (refl, λ h. refl, none, (refl, λ h. h, bad₄ kind timed _ _ _ s, (refl, λ h. refl, none, (refl, λ h. refl, none, tt)))) tt
 
-refuses₄ : (s : List ℕ) → Refuses table₄ (outcome₄ s)
+pub refuses₄ : (s : List ℕ) → Refuses table₄ (outcome₄ s)
 unfolding outcome₄ Right
 refuses₄ s =
     let template = templateOf₄ (beAt s 8 2) in
@@ -198,7 +198,7 @@ product-refuses s x e = refusal-listed table₄ (outcome₄ s) x (refuses₄ s) 
 
 -- ---- sections 5 and 7, and unpacking
 
-refuses₅ : (s : List ℕ) → Refuses table₅ (outcome₅ s)
+pub refuses₅ : (s : List ℕ) → Refuses table₅ (outcome₅ s)
 unfolding outcome₅ asSimple Right
 refuses₅ s =
     let values = read (valuesOf (after 0 fields₅) s) in

@@ -1,1 +1,3 @@
 pub mod Entries
+pub mod Records
+pub mod Letters

@@ -7,8 +7,10 @@ ghost use Rattle.skogmund.specs.Entries.{codeOf, coded, Listed};
 use layout::Refusal;
 use packing::Unpacked;
 
+mod record;
+
 // 18 x 2^40: 18, of no section and no place.
-const NO_ROOM: u64 = 19791209299968;
+pub(crate) const NO_ROOM: u64 = 19791209299968;
 
 #[no_mangle]
 pub extern "C" fn skogmund_unpack(section5: &[u8], section7: &[u8], row: &mut [u32]) -> u64
@@ -23,7 +25,7 @@ pub extern "C" fn skogmund_unpack(section5: &[u8], section7: &[u8], row: &mut [u
 }
 
 // A place is an octet number of a section, of which there are at most 65,536.
-fn code(x: Refusal) -> u64
+pub(crate) fn code(x: Refusal) -> u64
     requires { ⌜ x .place ≤ 65536 ⌝ }
     ensures { λ r. ⌜ r ≡ codeOf x ⌝ }
 {
