@@ -4,7 +4,13 @@ use crate::reference::Refusal;
 /// The entries as the header has them.
 pub mod raw {
     extern "C" {
-        #[cfg(feature = "parts")]
+        pub fn skogmund_read(
+            section: u8,
+            s: *const u8,
+            n: usize,
+            values: *mut i64,
+            places: usize,
+        ) -> u64;
         pub fn skogmund_part(
             part: u8,
             s: *const u8,
@@ -28,6 +34,41 @@ pub mod raw {
             places: usize,
             length: *mut u64,
             one: usize,
+        ) -> u64;
+        pub fn skogmund_empty(shelf: *mut u8, octets: usize) -> u64;
+        pub fn skogmund_file(
+            shelf: *mut u8,
+            octets: usize,
+            slot: u64,
+            issue_plus_1: u64,
+            s1: *const u8,
+            n1: usize,
+            s3: *const u8,
+            n3: usize,
+            s4: *const u8,
+            n4: usize,
+            s5: *const u8,
+            n5: usize,
+            s7: *const u8,
+            n7: usize,
+            kept: *mut u64,
+            one: usize,
+        ) -> u64;
+        pub fn skogmund_file_queue(
+            shelf: *mut u8,
+            octets: usize,
+            queue: *const u8,
+            n: usize,
+            counts: *mut u64,
+            three: usize,
+        ) -> u64;
+        pub fn skogmund_join(shelf: *mut u8, octets: usize, other: *const u8, n: usize) -> u64;
+        pub fn skogmund_slot(
+            shelf: *const u8,
+            octets: usize,
+            slot: u64,
+            values: *mut i64,
+            places: usize,
         ) -> u64;
     }
 }
@@ -80,10 +121,23 @@ fn lent_to_write<T>(s: &mut [T]) -> *mut T {
     }
 }
 
-/// First octet (from 1) and length of a part of a section, into the first two places of `span`.
-#[cfg(feature = "parts")]
-pub fn part(part: u8, s: &[u8], k: u64, span: &mut [u64]) -> Answer {
+/// The values of a section and before them their count, at the start of `values`.
+pub fn read(section: u8, s: &[u8], values: &mut [i64]) -> Answer {
     // SAFETY: each pointer comes with the length of the slice that it is of, and the entry keeps none.
+    Answer::of(unsafe {
+        raw::skogmund_read(
+            section,
+            lent(s),
+            s.len(),
+            lent_to_write(values),
+            values.len(),
+        )
+    })
+}
+
+/// First octet (from 1) and length of a part of a section, into the first two places of `span`.
+pub fn part(part: u8, s: &[u8], k: u64, span: &mut [u64]) -> Answer {
+    // SAFETY: as above.
     Answer::of(unsafe {
         raw::skogmund_part(part, lent(s), s.len(), k, lent_to_write(span), span.len())
     })
@@ -115,6 +169,81 @@ pub fn list(queue: &[u8], text: &mut [u8], length: &mut [u64]) -> Answer {
             text.len(),
             lent_to_write(length),
             length.len(),
+        )
+    })
+}
+
+/// The empty shelf.
+pub fn empty(shelf: &mut [u8]) -> Answer {
+    // SAFETY: as above.
+    Answer::of(unsafe { raw::skogmund_empty(lent_to_write(shelf), shelf.len()) })
+}
+
+/// Files a field; 1 into the first place of `kept` where the slot changed, else 0.
+pub fn file(
+    shelf: &mut [u8],
+    slot: u64,
+    issue_plus_1: u64,
+    sections: [&[u8]; 5],
+    kept: &mut [u64],
+) -> Answer {
+    let [one, three, four, five, seven] = sections;
+    // SAFETY: as above.
+    Answer::of(unsafe {
+        raw::skogmund_file(
+            lent_to_write(shelf),
+            shelf.len(),
+            slot,
+            issue_plus_1,
+            lent(one),
+            one.len(),
+            lent(three),
+            three.len(),
+            lent(four),
+            four.len(),
+            lent(five),
+            five.len(),
+            lent(seven),
+            seven.len(),
+            lent_to_write(kept),
+            kept.len(),
+        )
+    })
+}
+
+/// Files a queue; its records kept, passed and refused, into the first three places of `counts`.
+pub fn file_queue(shelf: &mut [u8], queue: &[u8], counts: &mut [u64]) -> Answer {
+    // SAFETY: as above.
+    Answer::of(unsafe {
+        raw::skogmund_file_queue(
+            lent_to_write(shelf),
+            shelf.len(),
+            lent(queue),
+            queue.len(),
+            lent_to_write(counts),
+            counts.len(),
+        )
+    })
+}
+
+/// Joins another shelf in.
+pub fn join(shelf: &mut [u8], other: &[u8]) -> Answer {
+    // SAFETY: as above.
+    Answer::of(unsafe {
+        raw::skogmund_join(lent_to_write(shelf), shelf.len(), lent(other), other.len())
+    })
+}
+
+/// What a slot holds, and before it the count of its values, at the start of `values`.
+pub fn slot(shelf: &[u8], slot: u64, values: &mut [i64]) -> Answer {
+    // SAFETY: as above.
+    Answer::of(unsafe {
+        raw::skogmund_slot(
+            lent(shelf),
+            shelf.len(),
+            slot,
+            lent_to_write(values),
+            values.len(),
         )
     })
 }

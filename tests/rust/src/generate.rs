@@ -1,8 +1,10 @@
-//! Inputs from a seed: sections, fields and queues as document 01 wants them, and ways to damage them.
+//! Inputs from a seed: sections, fields, queues and shelves as document 01 and the header want them, and ways to damage them.
 
 pub mod damage;
+pub mod filings;
 pub mod queues;
 pub mod sections;
+pub mod shelves;
 
 /// splitmix64: each number is a scrambled count, so that every seed is as good as another.
 pub struct Rng(u64);

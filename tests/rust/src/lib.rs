@@ -2,7 +2,8 @@
 //!
 //! - [`entries`]: a safe wrapper of the C entries;
 //! - [`reference`](mod@reference): document 01 in plain Rust, written from the document;
-//! - [`generate`]: inputs, valid and damaged, from a seed.
+//! - [`generate`]: inputs, valid and damaged, from a seed;
+//! - [`examples`]: the sections of document 01's examples.
 //!
 //! `cargo test --release` runs the reference on document 01's examples and on the stored cases, and compares the library with it
 //! over generated inputs (`--test differential -- --nocapture` shows the table of what came up). SKOGMUND_LIB names the
@@ -10,5 +11,6 @@
 
 #[cfg(not(no_library))]
 pub mod entries;
+pub mod examples;
 pub mod generate;
 pub mod reference;

@@ -138,6 +138,12 @@ fn swell(rng: &mut Rng, s: &mut Vec<u8>) {
     s.resize(length.max(s.len()), filler);
 }
 
+/// The same, with true length octets.
+pub fn swell_section(rng: &mut Rng, s: &mut Vec<u8>) {
+    swell(rng, s);
+    close_if_any(s);
+}
+
 fn change_length_octets(rng: &mut Rng, s: &mut [u8]) {
     if s.len() >= 4 {
         let length = number(s, 1, 4);
@@ -181,10 +187,7 @@ pub fn damage_inside(rng: &mut Rng, s: &mut Vec<u8>) {
 /// One damage to a section that is lent by itself.
 pub fn damage(rng: &mut Rng, s: &mut Vec<u8>) {
     match rng.below(200) {
-        0 => {
-            swell(rng, s);
-            close_if_any(s);
-        }
+        0 => swell_section(rng, s),
         1..=10 => change_length_octets(rng, s),
         11..=20 => cut(rng, s),
         21..=28 => extend(rng, s),

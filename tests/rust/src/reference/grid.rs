@@ -169,38 +169,11 @@ pub fn read(s: &[u8]) -> Outcome<Grid> {
 #[cfg(test)]
 mod tests {
     use super::*;
-
-    const MISSING: [u8; 4] = [255; 4];
-
-    /// A section 3 with template 3.0 and zeros for all that is not given.
-    fn section(points: u8, width: u8, interpretation: u8, ni: [u8; 4], nj: [u8; 4]) -> Vec<u8> {
-        let mut s = vec![0; 72];
-        s[3] = 72;
-        s[4] = 3;
-        s[9] = points;
-        s[10] = width;
-        s[11] = interpretation;
-        s[30..34].copy_from_slice(&ni);
-        s[34..38].copy_from_slice(&nj);
-        s[42..46].copy_from_slice(&MISSING);
-        s
-    }
-
-    fn with_list(mut s: Vec<u8>, list: &[u8]) -> Vec<u8> {
-        s.extend(list);
-        s[3] = s.len() as u8;
-        s
-    }
+    use crate::examples::{four_by_three, listed, section3, MISSING};
 
     fn refusal(s: &[u8]) -> (u8, u32) {
         let refusal = read(s).err().expect("refused");
         (refusal.number, refusal.place)
-    }
-
-    fn listed() -> Vec<u8> {
-        let mut s = section(14, 2, 1, MISSING, [0, 0, 0, 3]);
-        s[63..67].copy_from_slice(&MISSING);
-        with_list(s, &[0, 4, 0, 6, 0, 4])
     }
 
     #[test]
@@ -212,14 +185,13 @@ mod tests {
 
     #[test]
     fn list_of_the_document() {
-        let s = listed();
+        let s = listed(14);
         let grid = read(&s).expect("accepted");
         assert_eq!((s.len(), grid.points, grid.list), (78, 14, (72, 6)));
     }
 
     #[test]
     fn points_of_the_document() {
-        let four_by_three = |points| section(points, 0, 0, [0, 0, 0, 4], [0, 0, 0, 3]);
         assert_eq!(
             read(&four_by_three(12)).ok().map(|grid| grid.points),
             Some(12)
@@ -229,23 +201,23 @@ mod tests {
 
     #[test]
     fn disagreement() {
-        assert_eq!(refusal(&section(12, 0, 0, MISSING, [0, 0, 0, 3])), (10, 0));
+        assert_eq!(refusal(&section3(12, 0, 0, MISSING, [0, 0, 0, 3])), (10, 0));
         assert_eq!(
-            refusal(&section(12, 0, 1, [0, 0, 0, 4], [0, 0, 0, 3])),
+            refusal(&section3(12, 0, 1, [0, 0, 0, 4], [0, 0, 0, 3])),
             (10, 0)
         );
         assert_eq!(
-            refusal(&section(12, 3, 1, [0, 0, 0, 4], [0, 0, 0, 3])),
+            refusal(&section3(12, 3, 1, [0, 0, 0, 4], [0, 0, 0, 3])),
             (8, 11)
         );
-        let mut increment_present = listed();
+        let mut increment_present = listed(14);
         increment_present[63] = 0;
         assert_eq!(refusal(&increment_present), (10, 0));
     }
 
     #[test]
     fn a_list_that_is_too_long_by_its_count() {
-        let mut s = listed();
+        let mut s = listed(14);
         s[34..38].copy_from_slice(&[255, 255, 255, 254]);
         assert_eq!(refusal(&s), (11, 0));
     }

@@ -162,15 +162,8 @@ pub fn read(s: &[u8]) -> Outcome<Identification> {
 #[cfg(test)]
 mod tests {
     use super::*;
+    use crate::examples::section1 as section;
     use crate::reference::Refusal;
-
-    fn section(year: [u8; 2], month: u8, tail: &[u8]) -> Vec<u8> {
-        let mut s = vec![0, 0, 0, 21 + tail.len() as u8, 1, 0, 98, 0, 7, 30, 1, 2];
-        s.extend(year);
-        s.extend([month, 7, 18, 30, 45, 4, 5]);
-        s.extend(tail);
-        s
-    }
 
     fn real_year(s: &[u8]) -> i64 {
         read(s).expect("accepted").real_year

@@ -1,6 +1,6 @@
 //! What the listing program prints.
-use super::queue::file_queue;
-use super::shelf::{Card, Filed, Shelf};
+use super::queue::{counts, file_queue, Fates};
+use super::shelf::{Card, Shelf};
 use super::{Outcome, Refusal};
 
 const HEADING: &str = "slot year month day hour minute second issue template\n";
@@ -11,16 +11,12 @@ fn held_line(slot: usize, card: &Card) -> String {
     format!("{slot} {year} {month} {day} {hour} {minute} {second} {issue} {template}\n")
 }
 
-fn counts_line(fates: &[Outcome<Filed>]) -> String {
-    let count =
-        |wanted: fn(&Outcome<Filed>) -> bool| fates.iter().filter(|fate| wanted(fate)).count();
-    let kept = count(|fate| *fate == Ok(Filed::Kept));
-    let passed = count(|fate| *fate == Ok(Filed::Passed));
-    let refused = count(|fate| fate.is_err());
+fn counts_line(fates: &Fates) -> String {
+    let [kept, passed, refused] = counts(fates);
     format!("kept {kept} passed {passed} refused {refused}\n")
 }
 
-fn text(filed: &Outcome<Vec<Outcome<Filed>>>, shelf: &Shelf) -> String {
+fn text(filed: &Outcome<Fates>, shelf: &Shelf) -> String {
     match filed {
         Err(Refusal { number, .. }) => format!("refused {number}\n"),
         Ok(fates) => {
@@ -31,7 +27,7 @@ fn text(filed: &Outcome<Vec<Outcome<Filed>>>, shelf: &Shelf) -> String {
 }
 
 /// The text, and what became of the records.
-pub fn listing_and_fates(queue: &[u8]) -> (String, Outcome<Vec<Outcome<Filed>>>) {
+pub fn listing_and_fates(queue: &[u8]) -> (String, Outcome<Fates>) {
     let mut shelf = Shelf::empty();
     let filed = file_queue(&mut shelf, queue);
     (text(&filed, &shelf), filed)

@@ -14,6 +14,7 @@ pub mod parts;
 pub mod product;
 pub mod queue;
 pub mod shelf;
+pub mod shelf_octets;
 
 pub use listing::listing;
 pub use packing::unpack;

@@ -97,21 +97,7 @@ pub fn unpack(five: &[u8], seven: &[u8], places: usize) -> Outcome<Vec<u32>> {
 #[cfg(test)]
 mod tests {
     use super::*;
-
-    fn five(values: u8, bits: u8) -> Vec<u8> {
-        let mut s = vec![0; 21];
-        s[3] = 21;
-        s[4] = 5;
-        s[8] = values;
-        s[19] = bits;
-        s
-    }
-
-    fn seven(packed: &[u8]) -> Vec<u8> {
-        let mut s = vec![0, 0, 0, 5 + packed.len() as u8, 7];
-        s.extend(packed);
-        s
-    }
+    use crate::examples::{section5 as five, section7 as seven};
 
     fn refusal(outcome: Outcome<Vec<u32>>) -> (u8, u8, u32) {
         let refusal = outcome.expect_err("refused");

@@ -48,18 +48,11 @@ pub fn part(part: u8, s: &[u8], k: u64) -> Span {
 #[cfg(test)]
 mod tests {
     use super::*;
+    use crate::examples::section4;
 
     /// 4.14 with two ranges, three members and one coordinate: 76 + 24 + 3 + 4 octets.
     fn section() -> Vec<u8> {
-        let mut s = vec![0; 107];
-        s[3] = 107;
-        s[4] = 4;
-        s[6] = 1;
-        s[8] = 14;
-        s[53] = 3;
-        s[66..68].fill(1);
-        s[71] = 2;
-        s
+        section4(14, 107, 1, 2, 3)
     }
 
     fn shown(asked: u8, k: u64) -> (u64, u64) {

@@ -324,29 +324,7 @@ pub fn read(s: &[u8]) -> Outcome<Product> {
 #[cfg(test)]
 mod tests {
     use super::*;
-
-    /// A section of so many octets with zeros for all that is not given, except an interval's month and day.
-    fn section(number: u8, length: usize, nv: u8, n: u8, nc: u8) -> Vec<u8> {
-        let template = TEMPLATES
-            .iter()
-            .find(|template| template.number == u64::from(number))
-            .expect("listed");
-        let mut s = vec![0; length.max(template.smallest())];
-        s[3] = length as u8;
-        s[4] = 4;
-        s[6] = nv;
-        s[8] = number;
-        if let Some(at) = template.nc_at {
-            s[at - 1] = nc;
-        }
-        if let Some(at) = template.n_at {
-            s[at - 1] = n;
-            s[at - 6] = 1;
-            s[at - 5] = 1;
-        }
-        s.truncate(length);
-        s
-    }
+    use crate::examples::section4 as section;
 
     fn number(s: &[u8]) -> u8 {
         read(s).err().map_or(0, |refusal| refusal.number)

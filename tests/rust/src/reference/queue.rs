@@ -1,10 +1,11 @@
 //! The queue file.
 use super::octets::number;
-use super::shelf::{Filed, Shelf};
+use super::shelf::{Card, Filed, Shelf};
 use super::{refuse_if, Outcome, Refusal, MOST_OCTETS};
 
 const MOST_GROUPS: usize = 5;
-const GREATEST: u64 = 4_294_967_296;
+/// The greatest number of a queue, and issue + 1 at the most.
+pub const GREATEST: u64 = 4_294_967_296;
 const SMALLEST_SECTION: u64 = 5;
 
 /// What is left of a queue.
@@ -50,13 +51,18 @@ pub struct QueueRecord<'a> {
     pub body: &'a [u8],
 }
 
+/// The issue that an issue + 1 names, if it names one.
+pub fn named_issue(issue_plus_1: u64) -> Option<u32> {
+    issue_plus_1.checked_sub(1).map(|issue| issue as u32)
+}
+
 fn next_record<'a>(rest: &mut Rest<'a>) -> Outcome<QueueRecord<'a>> {
     let slot = rest.number()?;
     let stored = rest.number()?;
     let length = rest.number()?;
     Ok(QueueRecord {
         slot,
-        issue: stored.checked_sub(1).map(|issue| issue as u32),
+        issue: named_issue(stored),
         body: rest.take(length)?,
     })
 }
@@ -92,14 +98,41 @@ pub fn five_sections(body: &[u8]) -> Option<[&[u8]; 5]> {
     rest.is_empty().then_some(sections)
 }
 
+impl QueueRecord<'_> {
+    /// The card that the record takes to its slot: 20, then as filing.
+    pub fn card(&self) -> Outcome<Card> {
+        let sections = five_sections(self.body).ok_or(Refusal::of_none(20))?;
+        Card::to_file(self.slot, self.issue, sections)
+    }
+}
+
 /// What became of each record, in their order.
-pub fn file_queue(shelf: &mut Shelf, queue: &[u8]) -> Outcome<Vec<Outcome<Filed>>> {
-    let records = records(queue)?;
+pub type Fates = Vec<Outcome<Filed>>;
+
+pub fn file_records(shelf: &mut Shelf, records: Vec<QueueRecord>) -> Fates {
     let file = |record: QueueRecord| {
-        let sections = five_sections(record.body).ok_or(Refusal::of_none(20))?;
-        shelf.file(record.slot, record.issue, sections)
+        let card = record.card()?;
+        Ok(shelf.put(record.slot as usize, Some(card)))
     };
-    Ok(records.into_iter().map(file).collect())
+    records.into_iter().map(file).collect()
+}
+
+pub fn file_queue(shelf: &mut Shelf, queue: &[u8]) -> Outcome<Fates> {
+    let records = records(queue)?;
+    Ok(file_records(shelf, records))
+}
+
+/// The records kept, passed and refused.
+pub fn counts(fates: &Fates) -> [u64; 3] {
+    let count = |wanted: fn(&Outcome<Filed>) -> bool| {
+        let counted = fates.iter().filter(|fate| wanted(fate));
+        counted.count() as u64
+    };
+    [
+        count(|fate| *fate == Ok(Filed::Kept)),
+        count(|fate| *fate == Ok(Filed::Passed)),
+        count(|fate| fate.is_err()),
+    ]
 }
 
 #[cfg(test)]

@@ -5,7 +5,7 @@ use super::{message, refuse_if, Outcome};
 
 pub const SLOTS: usize = 64;
 const PRODUCT_FIRST: usize = 8;
-const PRODUCT_OCTETS: usize = 27;
+pub const PRODUCT_OCTETS: usize = 27;
 const GREGORIAN: i64 = 0;
 
 /// The derived order is the document's: the fields from the first to the last, the octets from the left.
@@ -32,6 +32,23 @@ impl Card {
             product: product.try_into().expect("27 octets"),
         }
     }
+
+    /// The card that filing takes to a slot: 16, the field's refusals, 17. A caller that names no issue gets issue 0.
+    pub fn to_file(slot: u64, issue: Option<u32>, sections: [&[u8]; 5]) -> Outcome<Card> {
+        refuse_if(slot >= SLOTS as u64, 16, 0)?;
+        let field = message::read(sections)?;
+        let calendar = field.identification.calendar.unwrap_or(GREGORIAN);
+        refuse_if(calendar != GREGORIAN, 17, 1)?;
+        Ok(Card::of(&field, issue.unwrap_or(0), sections[2]))
+    }
+
+    /// Real year, month, day, hour, minute, second, issue, and the octets one by one.
+    pub fn values(&self) -> Vec<i64> {
+        let mut values = self.reference_time.to_vec();
+        values.push(i64::from(self.issue));
+        values.extend(self.product.map(i64::from));
+        values
+    }
 }
 
 #[derive(Clone, Copy, Debug, PartialEq, Eq)]
@@ -53,7 +70,7 @@ impl Shelf {
     }
 
     /// The slot keeps the greater card; `None` is below every card. Kept means that the slot changed.
-    fn put(&mut self, slot: usize, card: Option<Card>) -> Filed {
+    pub fn put(&mut self, slot: usize, card: Option<Card>) -> Filed {
         if card > self.slots[slot] {
             self.slots[slot] = card;
             Filed::Kept
@@ -62,13 +79,8 @@ impl Shelf {
         }
     }
 
-    /// Filing: 16, the field's refusals, 17. A caller that names no issue gets issue 0.
     pub fn file(&mut self, slot: u64, issue: Option<u32>, sections: [&[u8]; 5]) -> Outcome<Filed> {
-        refuse_if(slot >= SLOTS as u64, 16, 0)?;
-        let field = message::read(sections)?;
-        let calendar = field.identification.calendar.unwrap_or(GREGORIAN);
-        refuse_if(calendar != GREGORIAN, 17, 1)?;
-        let card = Card::of(&field, issue.unwrap_or(0), sections[2]);
+        let card = Card::to_file(slot, issue, sections)?;
         Ok(self.put(slot as usize, Some(card)))
     }
 

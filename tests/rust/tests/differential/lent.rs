@@ -3,20 +3,24 @@ use skogmund_tests::entries::Answer;
 use skogmund_tests::generate::damage::damage;
 use skogmund_tests::generate::Rng;
 use std::fmt::Debug;
+use std::ops::Range;
 
 /// A lent buffer with a pattern in it and guards on both sides.
 pub struct Lent<T> {
     before: Vec<T>,
-    pub now: Vec<T>,
+    now: Vec<T>,
+    guard: usize,
     places: usize,
 }
 
-pub const GUARD: usize = 8;
+/// Without a guard, one who reads past the end leaves the allocation, which valgrind sees; with a guard, one who writes there
+/// is seen here. The lengths between make octets begin at any address.
+const MOST_GUARD: usize = 8;
 
 impl<T: Copy + PartialEq + Debug> Lent<T> {
     pub fn new(rng: &mut Rng, places: usize, of: fn(u64) -> T) -> Lent<T> {
-        let start = rng.any();
-        let pattern = (0..(places + 2 * GUARD) as u64).map(|place| {
+        let (start, guard) = (rng.any(), rng.below(MOST_GUARD + 1));
+        let pattern = (0..(places + 2 * guard) as u64).map(|place| {
             of(start
                 .wrapping_add(place)
                 .wrapping_mul(0x9e37_79b9_7f4a_7c15)
@@ -26,27 +30,70 @@ impl<T: Copy + PartialEq + Debug> Lent<T> {
         Lent {
             now: before.clone(),
             before,
+            guard,
             places,
         }
     }
 
+    /// With this in it in place of the pattern.
+    pub fn holding(rng: &mut Rng, contents: &[T], of: fn(u64) -> T) -> Lent<T> {
+        let mut lent = Lent::new(rng, contents.len(), of);
+        lent.lent().copy_from_slice(contents);
+        lent.before.clone_from(&lent.now);
+        lent
+    }
+
+    fn inside(&self) -> Range<usize> {
+        self.guard..self.guard + self.places
+    }
+
     pub fn lent(&mut self) -> &mut [T] {
-        &mut self.now[GUARD..GUARD + self.places]
+        let inside = self.inside();
+        &mut self.now[inside]
+    }
+
+    /// What was lent, as it is now.
+    pub fn now(&self) -> &[T] {
+        &self.now[self.inside()]
+    }
+
+    /// What was lent, as it was.
+    pub fn before(&self) -> &[T] {
+        &self.before[self.inside()]
+    }
+
+    /// What is wrong if it was not to be written to.
+    pub fn change(&self, name: &str) -> Option<String> {
+        self.difference(name, &[])
     }
 
     /// What is wrong if `written` should stand at the start of the lent places and all else be as it was.
     pub fn difference(&self, name: &str, written: &[T]) -> Option<String> {
-        let owed = |at: usize| match at.checked_sub(GUARD) {
+        let owed = |at: usize| match at.checked_sub(self.guard) {
             Some(place) if place < written.len() => written[place],
             _ => self.before[at],
         };
         let wrong = (0..self.now.len()).find(|&at| self.now[at] != owed(at))?;
-        let (place, now, owed) = (wrong as i64 - GUARD as i64, self.now[wrong], owed(wrong));
+        let (place, now, owed) = (
+            wrong as i64 - self.guard as i64,
+            self.now[wrong],
+            owed(wrong),
+        );
         Some(format!(
             "{name} (of {} places, {} written by the reference) has at place {place} {now:?}, and by the reference {owed:?}",
             self.places,
             written.len()
         ))
+    }
+}
+
+/// Enough places more often than not, else fewer or more.
+pub fn places_about(rng: &mut Rng, enough: usize) -> usize {
+    match rng.below(20) {
+        0 => rng.below(enough),
+        1 => enough - 1,
+        2..=4 => enough + rng.within(1, 9),
+        _ => enough,
     }
 }
 

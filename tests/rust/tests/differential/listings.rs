@@ -1,11 +1,10 @@
 //! `skogmund_list`.
-use crate::lent::{difference_of_answers, exact, hex, report, Lent, GUARD};
+use crate::lent::{difference_of_answers, exact, hex, places_about, report, Lent};
 use crate::tally::Tally;
 use skogmund_tests::entries::{self, Answer};
 use skogmund_tests::generate::queues::queue;
 use skogmund_tests::generate::Rng;
-use skogmund_tests::reference::shelf::Filed;
-use skogmund_tests::reference::{self, listing, Outcome};
+use skogmund_tests::reference::{self, listing};
 
 /// Enough places more often than not.
 fn places_for_text(rng: &mut Rng, length: usize) -> usize {
@@ -18,36 +17,13 @@ fn places_for_text(rng: &mut Rng, length: usize) -> usize {
     }
 }
 
-/// One place for the length more often than not.
-fn places_for_length(rng: &mut Rng) -> usize {
-    match rng.below(20) {
-        0 => 0,
-        1 => rng.within(2, 5),
-        _ => 1,
-    }
-}
-
-fn tally_fates(tally: &mut Tally, fates: &Outcome<Vec<Outcome<Filed>>>) {
-    tally.outcome("list", fates);
-    let Ok(fates) = fates else {
-        return tally.kind("list: queue refused");
-    };
-    for fate in fates {
-        tally.outcome("list", fate);
-        tally.kind(match fate {
-            Ok(Filed::Kept) => "list: record kept",
-            Ok(Filed::Passed) => "list: record passed",
-            Err(_) => "list: record refused",
-        });
-    }
-}
-
 pub fn one_listing(rng: &mut Rng, tally: &mut Tally) -> Result<(), String> {
     let queue = exact(queue(rng));
     let (expected, fates) = listing::listing_and_fates(&queue);
-    tally_fates(tally, &fates);
+    tally.outcome("list", &fates);
+    tally.fates("list", fates.as_deref().unwrap_or(&[]));
     let places = places_for_text(rng, expected.len());
-    let one = places_for_length(rng);
+    let one = places_about(rng, 1);
     let mut text = Lent::new(rng, places, |pattern| pattern as u8);
     let mut length = Lent::new(rng, one, |pattern| pattern);
     let answer = entries::list(&queue, text.lent(), length.lent());
@@ -61,7 +37,7 @@ pub fn one_listing(rng: &mut Rng, tally: &mut Tally) -> Result<(), String> {
     let owed_length = owed.map_or(vec![], |text| vec![text.len() as u64]);
     report(
         || {
-            let written = String::from_utf8_lossy(&text.now[GUARD..GUARD + places]);
+            let written = String::from_utf8_lossy(text.now());
             format!(
                 "list places {places} one {one} queue {}\n\
                  by the reference\n{expected}the library's buffer\n{written}",

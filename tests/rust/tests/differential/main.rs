@@ -1,13 +1,16 @@
 //! The library against the reference, over generated inputs.
 //!
-//! SKOGMUND_SEED gives the seed and SKOGMUND_COUNT the number of inputs, from number SKOGMUND_FROM on. A run that is long enough
-//! also has to have met every refusal that each entry can meet, so that it can't pass by comparing nothing.
+//! SKOGMUND_SEED gives the seed and SKOGMUND_COUNT the number of inputs, from number SKOGMUND_FROM on; a difference is shown with
+//! seed, number and input, and comes up again by its seed and number alone. A run that is long enough also has to have met every
+//! refusal that each entry can meet, so that it can't pass by comparing nothing.
 #![cfg(not(no_library))]
 
+mod histories;
 mod lent;
 mod listings;
-#[cfg(feature = "parts")]
 mod parts_shown;
+mod reading;
+mod shelves;
 mod tally;
 mod unpacking;
 
@@ -15,21 +18,22 @@ use skogmund_tests::generate::Rng;
 use std::time::Instant;
 use tally::Tally;
 
-const DEFAULT_COUNT: u64 = 500_000;
+const DEFAULT_COUNT: u64 = 250_000;
 const DEFAULT_SEED: u64 = 20_240_307;
 /// Below this some rare refusal may not come up.
-const ENOUGH: u64 = 100_000;
+const ENOUGH: u64 = 200_000;
+/// A history is many calls.
+const INPUTS_TO_A_HISTORY: u64 = 40;
 /// A run ends after so many.
 const MOST_DIFFERENCES: usize = 5;
 
-/// Each input has a generator of its own, so that it is the same without those before it.
-fn one_input(seed: u64, input: u64, tally: &mut Tally) -> Result<(), String> {
-    let rng = &mut Rng::of_input(seed, input);
-    match rng.below(10) {
-        #[cfg(feature = "parts")]
-        0..=3 => parts_shown::parts_of_a_section(rng, tally),
-        0..=6 => unpacking::one_unpacking(rng, tally),
-        _ => listings::one_listing(rng, tally),
+fn one_input(rng: &mut Rng, tally: &mut Tally) -> Result<(), String> {
+    match rng.below(20) {
+        0..=5 => reading::one_reading(rng, tally),
+        6..=8 => parts_shown::parts_of_a_section(rng, tally),
+        9..=11 => unpacking::one_unpacking(rng, tally),
+        12..=13 => listings::one_listing(rng, tally),
+        _ => shelves::calls_on_shelves(rng, tally),
     }
 }
 
@@ -42,29 +46,59 @@ fn setting(name: &str, default: u64) -> u64 {
     }
 }
 
+/// Which inputs to make.
+struct Run {
+    seed: u64,
+    from: u64,
+    count: u64,
+}
+
+impl Run {
+    fn set() -> Run {
+        Run {
+            seed: setting("SKOGMUND_SEED", DEFAULT_SEED),
+            from: setting("SKOGMUND_FROM", 0),
+            count: setting("SKOGMUND_COUNT", DEFAULT_COUNT),
+        }
+    }
+
+    /// Shows the inputs that make a difference, up to so many, and fails if there are any.
+    fn compare(&self, what: &str, mut one: impl FnMut(&mut Rng) -> Result<(), String>) {
+        let Run { seed, from, count } = *self;
+        let start = Instant::now();
+        let differences = (from..from + count)
+            .filter_map(|input| {
+                let said = one(&mut Rng::of_input(seed, input)).err()?;
+                println!("SKOGMUND_SEED={seed} SKOGMUND_FROM={input} SKOGMUND_COUNT=1: {said}");
+                Some(input)
+            })
+            .take(MOST_DIFFERENCES)
+            .count();
+        let seconds = start.elapsed().as_secs_f64();
+        println!("seed {seed}: {count} {what} from {from} on, {seconds:.1} s");
+        assert_eq!(differences, 0, "the library differs from what is owed");
+    }
+}
+
 #[test]
 fn library_and_reference_agree() {
-    let seed = setting("SKOGMUND_SEED", DEFAULT_SEED);
-    let count = setting("SKOGMUND_COUNT", DEFAULT_COUNT);
-    let from = setting("SKOGMUND_FROM", 0);
-    println!("SKOGMUND_SEED={seed} SKOGMUND_FROM={from} SKOGMUND_COUNT={count}");
-    let start = Instant::now();
+    let run = Run::set();
     let mut tally = Tally::default();
-    let differences = (from..from + count)
-        .filter_map(|input| {
-            one_input(seed, input, &mut tally)
-                .err()
-                .map(|said| (input, said))
-        })
-        .take(MOST_DIFFERENCES)
-        .inspect(|(input, said)| println!("input {input} of seed {seed}: {said}"))
-        .count();
+    run.compare("inputs", |rng| one_input(rng, &mut tally));
     tally.print();
-    let (calls, seconds) = (tally.calls, start.elapsed().as_secs_f64());
-    println!("{count} inputs, {calls} calls, {seconds:.1} s, {differences} differences");
-    assert_eq!(differences, 0, "the library and the reference differ");
-    if count >= ENOUGH {
+    println!("{} calls", tally.calls);
+    if run.count >= ENOUGH {
         let missing = tally.missing();
         assert!(missing.is_empty(), "never came up: {missing:?}");
     }
+}
+
+#[test]
+fn every_slot_holds_the_greatest_card() {
+    let all = Run::set();
+    let run = Run {
+        count: all.count.div_ceil(INPUTS_TO_A_HISTORY),
+        ..all
+    };
+    run.compare("histories", histories::one_history);
 }

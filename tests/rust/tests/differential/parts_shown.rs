@@ -1,5 +1,7 @@
 //! `skogmund_part`: several calls for each section.
-use crate::lent::{damaged_by_chance, difference_of_answers, exact, hex, report, Lent};
+use crate::lent::{
+    damaged_by_chance, difference_of_answers, exact, hex, places_about, report, Lent,
+};
 use crate::tally::{template_kind, Tally};
 use skogmund_tests::entries::{self, Answer};
 use skogmund_tests::generate::sections::{self, Size};
@@ -59,17 +61,9 @@ fn tally_part(tally: &mut Tally, part: u8, outcome: Outcome<parts::Span>) {
     });
 }
 
-/// Two places more often than not.
-fn places_for_span(rng: &mut Rng) -> usize {
-    match rng.below(5) {
-        0 => rng.below(6),
-        _ => 2,
-    }
-}
-
 fn one_part(rng: &mut Rng, tally: &mut Tally, s: &[u8]) -> Result<(), String> {
     let (part, k) = (which_part(rng, s), which_range(rng, s));
-    let places = places_for_span(rng);
+    let places = places_about(rng, 2);
     let mut span = Lent::new(rng, places, |pattern| pattern);
     let answer = entries::part(part, s, k, span.lent());
     let owed = reference::entries::part(part, s, k, places);
@@ -90,10 +84,10 @@ fn one_part(rng: &mut Rng, tally: &mut Tally, s: &[u8]) -> Result<(), String> {
 
 fn tally_section(tally: &mut Tally, s: &[u8]) {
     if let Ok(grid) = grid::read(s) {
-        tally.kind(&template_kind(3, grid.record.number(13) as u64));
+        tally.kind(&template_kind("part", 3, grid.record.number(13) as u64));
     }
     if let Ok(product) = product::read(s) {
-        tally.kind(&template_kind(4, product.record.number(8) as u64));
+        tally.kind(&template_kind("part", 4, product.record.number(8) as u64));
     }
     tally.length(s);
 }

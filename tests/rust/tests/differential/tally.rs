@@ -1,7 +1,6 @@
 //! What came up in a run, and what has to.
-#[cfg(feature = "parts")]
-use skogmund_tests::reference::{grid, product};
-use skogmund_tests::reference::{Outcome, Refusal};
+use skogmund_tests::reference::shelf::Filed;
+use skogmund_tests::reference::{grid, identification, product, Outcome, Refusal};
 use std::collections::BTreeMap;
 
 /// What came up, by entry: a refusal with its section, or a kind of answer.
@@ -34,10 +33,23 @@ impl Tally {
         }
     }
 
+    /// What became of each filing of an entry.
+    pub fn fates(&mut self, entry: &'static str, fates: &[Outcome<Filed>]) {
+        for fate in fates {
+            self.outcome(entry, fate);
+            let became = match fate {
+                Ok(Filed::Kept) => "kept",
+                Ok(Filed::Passed) => "passed",
+                Err(_) => "refused",
+            };
+            self.kind(&format!("{entry}: {became}"));
+        }
+    }
+
     pub fn print(&self) {
-        println!("entry    section  refusal  times");
+        println!("entry       section  refusal  times");
         for ((entry, section, number), times) in &self.refusals {
-            println!("{entry:8} {section:7} {number:8} {times:6}");
+            println!("{entry:11} {section:7} {number:8} {times:6}");
         }
         for (kind, times) in &self.kinds {
             println!("{kind}: {times}");
@@ -58,14 +70,17 @@ impl Tally {
     }
 }
 
-/// What each entry can meet by document 01. 12 can't come up, as two numbers of 32 bits have no product above 64; the sections of
-/// a body are cut by their own lengths, so that 1, 2 and 3 can't come up in a queue.
+/// What each entry can meet by document 01 and the header. 12 can't come up, as two numbers of 32 bits have no product above 64; the
+/// sections of a body are cut by their own lengths, so that 1, 2 and 3 can't come up in a queue.
 const EVERY_REFUSAL: &[(&str, u8, &[u8])] = &[
-    #[cfg(feature = "parts")]
+    ("read", 0, &[18]),
+    ("read", 1, &[1, 2, 3, 4, 5, 6, 7, 8, 11]),
+    ("read", 3, &[1, 2, 3, 4, 5, 6, 7, 8, 10, 11, 13]),
+    ("read", 4, &[1, 2, 3, 4, 5, 6, 7, 8, 9, 11]),
+    ("read", 5, &[1, 2, 3, 4, 5, 6, 7, 8, 11]),
+    ("read", 7, &[1, 2, 3, 4]),
     ("part", 0, &[18]),
-    #[cfg(feature = "parts")]
     ("part", 3, &[1, 2, 3, 4, 5, 6, 7, 8, 10, 11, 13]),
-    #[cfg(feature = "parts")]
     ("part", 4, &[1, 2, 3, 4, 5, 6, 7, 8, 9, 11]),
     ("unpack", 0, &[18]),
     ("unpack", 5, &[1, 2, 3, 4, 5, 6, 7, 8, 11]),
@@ -76,30 +91,54 @@ const EVERY_REFUSAL: &[(&str, u8, &[u8])] = &[
     ("list", 4, &[4, 5, 6, 7, 8, 9, 11]),
     ("list", 5, &[4, 5, 6, 7, 8, 11, 14]),
     ("list", 7, &[4, 15]),
+    ("empty", 0, &[18]),
+    ("file", 0, &[16, 18, 19]),
+    ("file", 1, &[1, 2, 3, 4, 5, 6, 7, 8, 11, 17]),
+    ("file", 3, &[1, 2, 3, 4, 5, 6, 7, 8, 10, 11, 13]),
+    ("file", 4, &[1, 2, 3, 4, 5, 6, 7, 8, 9, 11]),
+    ("file", 5, &[1, 2, 3, 4, 5, 6, 7, 8, 11, 14]),
+    ("file", 7, &[1, 2, 3, 4, 15]),
+    ("file_queue", 0, &[2, 16, 18, 19, 20]),
+    ("file_queue", 1, &[4, 5, 6, 7, 8, 11, 17]),
+    ("file_queue", 3, &[4, 5, 6, 7, 8, 10, 11, 13]),
+    ("file_queue", 4, &[4, 5, 6, 7, 8, 9, 11]),
+    ("file_queue", 5, &[4, 5, 6, 7, 8, 11, 14]),
+    ("file_queue", 7, &[4, 15]),
+    ("join", 0, &[18]),
+    ("slot", 0, &[16, 18]),
 ];
 
 const KINDS: &[&str] = &[
-    #[cfg(feature = "parts")]
+    "read: another section number",
+    "read: missing value",
+    "read: accepted 1 without a template",
     "part: list of section 3 shown",
-    #[cfg(feature = "parts")]
     "part: time range shown",
-    #[cfg(feature = "parts")]
     "part: members shown",
-    #[cfg(feature = "parts")]
     "part: coordinates shown",
-    #[cfg(feature = "parts")]
     "part: empty part of an accepted section",
-    #[cfg(feature = "parts")]
     "part: empty part of a refused section",
-    #[cfg(feature = "parts")]
     "part: another part number",
     "unpack: row written",
     "unpack: row of no places",
-    "list: record kept",
-    "list: record passed",
-    "list: record refused",
-    "list: queue refused",
+    "list: kept",
+    "list: passed",
+    "list: refused",
     "list: text written",
+    "file: kept",
+    "file: passed",
+    "file_queue: kept",
+    "file_queue: passed",
+    "file_queue: refused",
+    "join: no slot changed",
+    "join: a slot changed",
+    "slot: empty",
+    "slot: held",
+    "shelf: as an entry writes it",
+    "shelf: as no entry writes it",
+    "shelf: too short",
+    "shelf: too long",
+    "shelf: too little beside it",
     LONG,
 ];
 
@@ -111,31 +150,31 @@ pub fn width_kind(bits: u64) -> String {
     format!("unpack: row of width {bits:2}")
 }
 
-#[cfg(feature = "parts")]
-pub fn template_kind(section: u8, template: u64) -> String {
-    format!("part: accepted {section}.{template}")
+pub fn template_kind(entry: &str, section: u8, template: u64) -> String {
+    format!("{entry}: accepted {section}.{template}")
 }
 
-/// The kinds above, each width of a row and each template of sections 3 and 4.
+/// The kinds above, each width of a row and each template of a section.
 fn every_kind() -> Vec<String> {
     let named = KINDS.iter().map(|kind| kind.to_string());
+    let read = every_template().map(|(section, template)| template_kind("read", section, template));
+    let with_parts = every_template().filter(|(section, _)| matches!(section, 3 | 4));
+    let shown = with_parts.map(|(section, template)| template_kind("part", section, template));
     named
         .chain((0..=32).map(width_kind))
-        .chain(every_template())
+        .chain(read)
+        .chain(shown)
         .collect()
 }
 
-#[cfg(feature = "parts")]
-fn every_template() -> Vec<String> {
+/// Section and number of each listed template; data has the packing's.
+fn every_template() -> impl Iterator<Item = (u8, u64)> {
+    let identifications = identification::WITH_TEMPLATE.iter();
     let grids = grid::TEMPLATES.iter().map(|listed| (3, listed.number));
     let products = product::TEMPLATES.iter().map(|listed| (4, listed.number));
-    grids
+    identifications
+        .filter_map(|form| Some((1, form.template?)))
+        .chain(grids)
         .chain(products)
-        .map(|(section, template)| template_kind(section, template))
-        .collect()
-}
-
-#[cfg(not(feature = "parts"))]
-fn every_template() -> Vec<String> {
-    Vec::new()
+        .chain([(5, 0), (7, 0)])
 }

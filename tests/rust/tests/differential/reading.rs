@@ -1,0 +1,90 @@
+//! `skogmund_read`.
+use crate::lent::{
+    damaged_by_chance, difference_of_answers, exact, hex, places_about, report, Lent,
+};
+use crate::tally::{template_kind, Tally};
+use skogmund_tests::entries::{self, Answer};
+use skogmund_tests::generate::sections::{self, Size};
+use skogmund_tests::generate::Rng;
+use skogmund_tests::reference::entries::VALUES;
+use skogmund_tests::reference::{self, Outcome};
+
+const SECTIONS: &[u8] = &[1, 3, 4, 5, 7];
+
+/// A section that is accepted, but for a grid now and then.
+fn whole_section(rng: &mut Rng, section: u8) -> Vec<u8> {
+    let (size, values) = (Size::some(rng), rng.below(48) as u64);
+    let bits = rng.within(0, 32) as u64;
+    match (section, rng.below(12)) {
+        (1, _) => sections::section1(rng),
+        (3, 0) => sections::section3_of_no_width(rng),
+        (3, 1) => sections::wrapped_section3(rng),
+        (3, _) => sections::section3(rng, size),
+        (4, _) => sections::section4(rng, size),
+        (5, _) => sections::section5(rng, values, bits),
+        _ => sections::section7(rng, values, bits),
+    }
+}
+
+fn section_to_read(rng: &mut Rng, section: u8) -> Vec<u8> {
+    match rng.below(40) {
+        0 => {
+            let length = rng.below(120);
+            rng.octets(length)
+        }
+        _ => {
+            let s = whole_section(rng, section);
+            damaged_by_chance(rng, s, 40)
+        }
+    }
+}
+
+/// The section's own number more often than not.
+fn number_asked(rng: &mut Rng, section: u8) -> u8 {
+    match rng.below(20) {
+        0 => rng.pick(&[0, 2, 6, 8, 9, 129, 131, 255]),
+        1 => rng.pick(SECTIONS),
+        2 => rng.octet(),
+        _ => section,
+    }
+}
+
+fn tally_read(tally: &mut Tally, asked: u8, s: &[u8], owed: &Outcome<Vec<i64>>) {
+    tally.length(s);
+    if !SECTIONS.contains(&asked) {
+        return tally.kind("read: another section number");
+    }
+    tally.outcome("read", owed);
+    let Ok(values) = owed else { return };
+    if values.contains(&i64::MIN) {
+        tally.kind("read: missing value");
+    }
+    // Behind the count: length, number, and then the template as the section has it.
+    let template = match (asked, s.len()) {
+        (1, 21) => return tally.kind("read: accepted 1 without a template"),
+        (1, _) => values[16],
+        (3, _) => values[7],
+        (4, _) => values[4],
+        _ => 0,
+    };
+    tally.kind(&template_kind("read", asked, template as u64));
+}
+
+pub fn one_reading(rng: &mut Rng, tally: &mut Tally) -> Result<(), String> {
+    let section = rng.pick(SECTIONS);
+    let s = exact(section_to_read(rng, section));
+    let asked = number_asked(rng, section);
+    let places = places_about(rng, VALUES);
+    let mut values = Lent::new(rng, places, |pattern| pattern as i64);
+    let answer = entries::read(asked, &s, values.lent());
+    let owed = reference::entries::read(asked, &s, places);
+    tally.calls += 1;
+    tally_read(tally, asked, &s, &owed);
+    report(
+        || format!("read {asked} places {places} section {}", hex(&s)),
+        [
+            difference_of_answers(answer, Answer::from(&owed)),
+            values.difference("values", owed.as_deref().unwrap_or(&[])),
+        ],
+    )
+}
