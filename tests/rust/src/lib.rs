@@ -5,9 +5,7 @@
 //! - [`generate`]: inputs, valid and damaged, from a seed;
 //! - [`examples`]: the sections of document 01's examples.
 //!
-//! `cargo test --release` runs the reference on document 01's examples and on the stored cases, and compares the library with it
-//! over generated inputs (`--test differential -- --nocapture` shows the table of what came up). SKOGMUND_LIB names the
-//! directory of `libskogmund.a`, SKOGMUND_SEED the seed and SKOGMUND_COUNT how many inputs.
+//! README.md beside it says how to run the tests, also under valgrind, and what they compare.
 
 #[cfg(not(no_library))]
 pub mod entries;

@@ -17,9 +17,16 @@ pub struct Lent<T> {
 /// is seen here. The lengths between make octets begin at any address.
 const MOST_GUARD: usize = 8;
 
+fn guard(rng: &mut Rng) -> usize {
+    match rng.below(2) {
+        0 => 0,
+        _ => rng.within(1, MOST_GUARD),
+    }
+}
+
 impl<T: Copy + PartialEq + Debug> Lent<T> {
     pub fn new(rng: &mut Rng, places: usize, of: fn(u64) -> T) -> Lent<T> {
-        let (start, guard) = (rng.any(), rng.below(MOST_GUARD + 1));
+        let (start, guard) = (rng.any(), guard(rng));
         let pattern = (0..(places + 2 * guard) as u64).map(|place| {
             of(start
                 .wrapping_add(place)
