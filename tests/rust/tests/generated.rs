@@ -1,8 +1,12 @@
 //! What is generated undamaged is accepted by the reference, so that damage alone makes refusals.
+use skogmund_tests::generate::filings::Stock;
 use skogmund_tests::generate::queues::{queue, record, spelled};
 use skogmund_tests::generate::sections::{self, Size};
+use skogmund_tests::generate::shelves::{any_shelf, of_another_length, shelf_beside};
 use skogmund_tests::generate::Rng;
-use skogmund_tests::reference::shelf::Filed;
+use skogmund_tests::reference::queue::named_issue;
+use skogmund_tests::reference::shelf::{Filed, Shelf};
+use skogmund_tests::reference::shelf_octets::SHELF_OCTETS;
 use skogmund_tests::reference::{self, listing::listing_and_fates};
 
 const TIMES: u64 = 5_000;
@@ -79,6 +83,41 @@ fn same_seed_same_queue() {
         let made = || queue(&mut Rng::of_input(5, input));
         assert_eq!(made(), made());
     }
+}
+
+#[test]
+fn shelves_are_of_a_shelfs_length_or_not() {
+    for input in 0..TIMES / 10 {
+        let rng = &mut Rng::of_input(7, input);
+        let shelf = any_shelf(rng);
+        assert_eq!(shelf.len(), SHELF_OCTETS);
+        assert_eq!(shelf_beside(rng, &shelf).len(), SHELF_OCTETS);
+        assert_ne!(of_another_length(rng, &shelf).len(), SHELF_OCTETS);
+    }
+}
+
+/// So that filings reach the shelf, and cards that are there already.
+#[test]
+fn fields_of_one_stock_compete() {
+    let mut times = [0; 3];
+    for input in 0..TIMES / 10 {
+        let rng = &mut Rng::of_input(8, input);
+        let stock = Stock::new(rng);
+        let mut shelf = Shelf::empty();
+        for _ in 0..10 {
+            let filing = stock.filing(rng);
+            let issue = named_issue(filing.issue_plus_1);
+            match shelf.file(filing.slot, issue, filing.sections()) {
+                Ok(Filed::Kept) => times[0] += 1,
+                Ok(Filed::Passed) => times[1] += 1,
+                Err(_) => times[2] += 1,
+            }
+        }
+    }
+    assert!(
+        times.into_iter().all(|times| times > TIMES / 10),
+        "{times:?}"
+    );
 }
 
 #[test]
