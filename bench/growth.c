@@ -1,0 +1,63 @@
+/* How the time grows with the input. Each input has twice the size of the one before. */
+#include "bench.h"
+#include "check.h"
+#include "queues.h"
+#include "skogmund.h"
+#include "timing.h"
+#include <stdio.h>
+
+enum { MOST_SIZES = 6, QUEUES = 4, MOST_VALUES = 32000, BITS = 12 };
+
+static struct field fields[MOST_SIZES];
+static struct section grids[MOST_SIZES];
+static struct queue queues[QUEUES];
+
+static uint64_t unpack(void *about) {
+    static uint32_t row[MOST_VALUES];
+    const struct field *f = about;
+    const struct section *s5 = &f->sections[SECTION_5], *s7 = &f->sections[SECTION_7];
+    size_t count = (s7->n - 5) * 8 / BITS;
+    check(skogmund_unpack(s5->octets, s5->n, s7->octets, s7->n, row, count) == 0, "skogmund_unpack accepts");
+    return row[count - 1];
+}
+
+static uint64_t read_grid(void *about) {
+    static int64_t values[SKOGMUND_VALUES];
+    const struct section *s = about;
+    check(skogmund_read(3, s->octets, s->n, values, SKOGMUND_VALUES) == 0, "skogmund_read accepts");
+    return (uint64_t)values[4];
+}
+
+static void print_growth(const char *what, struct job *jobs, size_t sizes, unsigned first) {
+    time_jobs(jobs, sizes);
+    for (size_t i = 0; i < sizes; i++) {
+        printf("| %s | %u | %.0f | ", what, first << i, jobs[i].nanoseconds);
+        if (i > 0) printf("%.2f ", jobs[i].nanoseconds / jobs[i - 1].nanoseconds);
+        printf("|\n");
+    }
+    fflush(stdout);
+}
+
+void bench_growth(void) {
+    struct job unpacking[MOST_SIZES], filing[QUEUES], listing[QUEUES], reading[MOST_SIZES];
+    for (size_t i = 0; i < MOST_SIZES; i++) {
+        make_rain(&fields[i], 100, 10u << i, BITS);
+        make_listed_grid(&grids[i], 1000u << i);
+        unpacking[i] = (struct job){unpack, &fields[i], 0};
+        reading[i] = (struct job){read_grid, &grids[i], 0};
+    }
+    for (size_t i = 0; i < QUEUES; i++) {
+        make_queue(&queues[i], 50u << i, 0);
+        check(queues[i].records == 50u << i, "the queue has as many records as it should");
+        filing[i] = (struct job){file_into_empty, &queues[i], 0};
+        listing[i] = (struct job){list_queue, &queues[i], 0};
+    }
+    printf("## Growth\n\n");
+    printf("The last column is the time over that of half the size; 2 is growth in proportion.\n\n");
+    printf("| what | size | ns | factor |\n|---|---:|---:|---:|\n");
+    print_growth("unpacking, values of 12 bits", unpacking, MOST_SIZES, 1000);
+    print_growth("filing a queue, records", filing, QUEUES, 50);
+    print_growth("listing a queue, records", listing, QUEUES, 50);
+    print_growth("reading section 3, numbers in its list", reading, MOST_SIZES, 1000);
+    printf("\n");
+}
