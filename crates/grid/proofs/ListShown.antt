@@ -6,17 +6,22 @@ use native.Mathlib.Omega.{arith}
 use mathlib.Core.Path.{_≡_, refl, ap, sym, _∙_}
 use mathlib.Core.List.{List, []}
 use mathlib.Core.Bool.{true}
-use lib.ListN.{length, drop, length-drop, drop-of-length-le}
+use lib.ListN.{length, take, drop, length-drop, drop-of-length-le}
+use lib.Seq.{take-all}
 use Rattle.octets.specs.Octets.{part, beAt}
-use Rattle.octets.proofs.Laws.{part-all, part-drop, beAt-drop}
-use Rattle.layout.specs.Outcomes.{refused}
-use Rattle.grid.specs.Section3.{hasList, baseEnd, listWidth, listCount, listOctets, sumOf, templateNumbered, templateOf, outcome₃, list₃}
+use Rattle.octets.proofs.Laws.{part-take, beAt-drop}
+use Rattle.layout.specs.Outcomes.{refused, ifRead}
+use Rattle.layout.specs.Spans.{nowhere, spanAfter, octetsIn, Within}
+use Rattle.layout.specs.declared.Span.{Span}
+use Rattle.layout.proofs.Outcomes.{of-both}
+use Rattle.layout.proofs.Spans.{octets-after, after-within}
+use Rattle.grid.specs.Section3.{hasList, baseEnd, listWidth, listCount, listOctets, sumOf, templateNumbered, templateOf, outcome₃, listSpan, list₃}
 use Rattle.grid.specs.Accepted.{Follows₃, NoList}
 use Rattle.grid.specs.declared.Template.{Template}
-use Rattle.grid.proofs.AcceptedExactlyWhen.{all-fits, named, points-listed, follows-accepted}
+use Rattle.grid.proofs.AcceptedExactlyWhen.{all-fits, named, points-listed, accepted-follows, follows-accepted}
 
 pub refused-shows-none : (s : List ℕ) (number section place : ℕ) → outcome₃ s ≡ refused number section place → list₃ s ≡ []
-unfolding list₃
+unfolding listSpan ifRead
 refused-shows-none s number section place e = rw e
 
 -- a list is a section of its own to those who count its octets
@@ -29,17 +34,23 @@ sum-dropped end width (suc n) s =
     λ i. sum-dropped end width n s i + here i
 
 module _ (template : Template) (s : List ℕ) (f : Follows₃ template s) where
+  whole : length s ≡ baseEnd template + listOctets s
+  whole = all-fits template s (f .list) .whole
+
+  names-it : templateOf s ≡ template
+  names-it = ap templateNumbered (f .names) ∙ named template
+
+  stretch : list₃ s ≡ take (listOctets s) (drop (baseEnd template) s)
+  unfolding listSpan ifRead
+  stretch = rw (follows-accepted template s f, names-it) (octets-after (baseEnd template) (listOctets s) s)
+
   behind : list₃ s ≡ drop (baseEnd template) s
-  unfolding list₃
-  behind =
-      let t : templateOf s ≡ template = ap templateNumbered (f .names) ∙ named template in
-      rw (follows-accepted template s f, t)
+  behind = stretch ∙ take-all (listOctets s) (drop (baseEnd template) s) (simp length-drop (omega (arith, whole)))
 
   pub those-very-octets : list₃ s ≡ part s (1 + baseEnd template) (listOctets s)
   those-very-octets =
-      let rest = drop (baseEnd template) s in
-      let long : length rest ≡ listOctets s = length-drop (baseEnd template) s ∙ omega (arith, all-fits template s (f .list) .whole) in
-      behind ∙ sym (part-all rest) ∙ ap (part rest 1) long ∙ part-drop s (baseEnd template) 1 (listOctets s) (omega arith)
+      let at : baseEnd template + 1 ≡ 1 + baseEnd template = omega arith in
+      rw (← at) (stretch ∙ sym (part-take s (baseEnd template) (listOctets s) (omega (arith, whole))))
 
   pub points-are-its-sum : hasList (listWidth s) ≡ true → beAt s 7 4 ≡ sumOf 0 (listWidth s) (list₃ s) (listCount s)
   points-are-its-sum w =
@@ -50,3 +61,12 @@ module _ (template : Template) (s : List ℕ) (f : Follows₃ template s) where
 
   pub without-a-list : NoList template s → list₃ s ≡ []
   without-a-list n = behind ∙ drop-of-length-le s {i = baseEnd template} (omega (arith, n .whole))
+
+-- where it is said to stand, the section has its octets
+pub list-within : (s : List ℕ) → Within (listSpan s) s
+unfolding listSpan
+list-within s =
+    of-both (λ (x : Span). Within x s) (outcome₃ s) (spanAfter (baseEnd (templateOf s)) (listOctets s)) nowhere (omega arith)
+    (λ vs e.
+    let f = accepted-follows s vs e in
+    after-within (baseEnd (templateOf s)) (listOctets s) s (rw (names-it (f .0) s (f .1)) (omega (arith, whole (f .0) s (f .1)))))

@@ -3,11 +3,11 @@
 use mathlib.Core.Path.{refl}
 use Rattle.octets.specs.Octets.{part, be, beAt, digits, signOf}
 use Rattle.layout.specs.Fields.{between, placed, valuesOf, lowestBad}
-use Rattle.layout.specs.Outcomes.{firstOf}
+use Rattle.layout.specs.Outcomes.{firstOf, ifRead}
 use Rattle.layout.specs.Examples.{AllAgree}
-use Rattle.grid.specs.Section3.{hasList, gridHead, scaled, earth, counts, corners, common, poles, fields₃, missingWith, agreedWithoutList, agreedWithList, agreed, listCount, sumOf, pointsOf, productAbove, values₃, fitting, asTemplate, templateNumbered, outcome₃, list₃}
+use Rattle.grid.specs.Section3.{hasList, gridHead, scaled, earth, counts, corners, common, poles, fields₃, missingWith, agreedWithoutList, agreedWithList, agreed, listCount, sumOf, pointsOf, productAbove, values₃, fitting, asTemplate, templateNumbered, outcome₃, listSpan}
 use Rattle.grid.specs.Examples.{exampleSection, starredGrids}
 
 pub grids-agree : AllAgree starredGrids
-unfolding AllAgree exampleSection digits part be beAt signOf between placed valuesOf lowestBad firstOf hasList gridHead scaled earth counts corners common poles fields₃ missingWith agreedWithoutList agreedWithList agreed listCount sumOf pointsOf productAbove values₃ fitting asTemplate templateNumbered outcome₃ list₃
+unfolding AllAgree exampleSection digits part be beAt signOf between placed valuesOf lowestBad firstOf ifRead hasList gridHead scaled earth counts corners common poles fields₃ missingWith agreedWithoutList agreedWithList agreed listCount sumOf pointsOf productAbove values₃ fitting asTemplate templateNumbered outcome₃ listSpan
 grids-agree = (refl, (refl, tt))

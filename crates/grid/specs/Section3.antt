@@ -3,13 +3,15 @@
 use Prim.Native.Nat.{ℕ, zero, suc, _+_, _*_, _^_}
 use mathlib.Core.List.{List, [], _∷_, _++_}
 use mathlib.Core.Bool.{Bool, not, cond, _&&_, _||_}
-use lib.ListN.{length, drop}
+use lib.ListN.{length}
 use lib.Dec.{ltb, leb, eqb}
 use Rattle.octets.specs.Octets.{beAt, allOnes}
 use Rattle.layout.specs.Fields.{Value, none, is, which, plain, unsigned, Field, held, shown, between, raw, ranged, signedPresent, optional, nonzeroOrMissing, lacking, tag, after, badPlace, valuesOf}
-use Rattle.layout.specs.Outcomes.{Outcome, refused, read, refusedBy, Reason, reason, badField, firstOf, headReasons}
+use Rattle.layout.specs.Outcomes.{Outcome, read, refusedBy, ifRead, Reason, reason, badField, firstOf, headReasons}
 use Rattle.layout.specs.Missing.{in32}
+use Rattle.layout.specs.Spans.{nowhere, spanAfter, octetsIn}
 use Rattle.layout.specs.declared.Refusal.{Refusal}
+use Rattle.layout.specs.declared.Span.{Span}
 use Rattle.grid.specs.declared.Template.{Template}
 use Rattle.grid.specs.declared.Template.the-variants.{LatLon, Rotated, Stretched, StretchedAndRotated}
 use Rattle.grid.specs.declared.Scaled.{Scaled}
@@ -191,12 +193,11 @@ outcome₃ s = firstOf 3 (headReasons 3 s) (firstOf 3 (numberReasons s) (asTempl
 
 -- ---- the list that a caller is shown: the octets behind the base, and none of a refused section
 
-abbrev pub shownIf : Outcome → List ℕ → List ℕ
-shownIf (refused number section place) octets = []
-shownIf (read values) octets = octets
+unfoldable pub listSpan : List ℕ → Span
+listSpan s = ifRead (outcome₃ s) (spanAfter (baseEnd (templateOf s)) (listOctets s)) nowhere
 
-unfoldable pub list₃ : List ℕ → List ℕ
-list₃ s = shownIf (outcome₃ s) (drop (baseEnd (templateOf s)) s)
+abbrev pub list₃ : List ℕ → List ℕ
+list₃ s = octetsIn (listSpan s) s
 
 -- ---- what a program's answer says
 

@@ -5,8 +5,9 @@ ghost use lib.ListN.{drop};
 ghost use Rattle.octets.specs.Octets.{beAt};
 ghost use Rattle.layout.specs.Fields.{after, badPlace, lowestBad, valuesOf};
 ghost use Rattle.layout.specs.Outcomes.{refused};
-ghost use Rattle.grid.specs.Section3.{outcome₃, asTemplate, fitting, templateNumbered, baseEnd, fields₃, scaled, earth, common, pole, poles, widthAllowed, hasList, isMissing, missingWith, agreedWithoutList, agreedWithList, agreed, listCount, listOctets, total, productAbove, sumOf, pointsOf, values₃, list₃, scaledIn, earthIn, commonIn, poleIn, polesIn, valuesIn, told, refusalIn};
+ghost use Rattle.grid.specs.Section3.{outcome₃, asTemplate, fitting, templateNumbered, baseEnd, fields₃, scaled, earth, common, pole, poles, widthAllowed, hasList, isMissing, missingWith, agreedWithoutList, agreedWithList, agreed, listCount, listOctets, total, productAbove, sumOf, pointsOf, values₃, listSpan, list₃, scaledIn, earthIn, commonIn, poleIn, polesIn, valuesIn, told, refusalIn};
 use layout::Refusal;
+use layout::Span;
 use layout::U32OrMissing;
 
 // 3.0, 3.1, 3.2 and 3.3: latitude and longitude, rotated, stretched, or both.
@@ -128,16 +129,25 @@ pub fn read(section: &[u8]) -> Answer
     read_as(section, template_numbered(number))
 }
 
-// The list's very octets, or none where the section is refused or has no list.
-pub fn list(section: &[u8]) -> &[u8]
-    ensures { λ r. ⌜ now r ≡ list₃ (now (section .entry)) ⌝ }
+// Where the list stands, which is nowhere where the section is refused or has no list.
+pub fn list_span(section: &[u8]) -> Span
+    ensures { λ r. ⌜ r ≡ listSpan (now (section .entry)) ⌝ }
 {
     let answer = read(section);
     let Answer::Read(_) = answer else {
-        return &section[..0];
+        return Span::after(0, 0);
     };
     let template = template_numbered(octets::u16_at(section, 13));
-    octets::part_after(section, base_end(template), section.len())
+    let end = base_end(template);
+    Span::after(end, total_of(section, template) - end)
+}
+
+// The list's very octets.
+pub fn list(section: &[u8]) -> &[u8]
+    ensures { λ r. ⌜ now r ≡ list₃ (now (section .entry)) ⌝ }
+{
+    let span = list_span(section);
+    octets::part_after(section, span.before, span.length)
 }
 
 // The refusal of an answer that is one, for a caller to hand on.

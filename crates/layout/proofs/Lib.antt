@@ -4,3 +4,4 @@ pub mod Ranges
 pub mod Untold
 pub mod Shown
 pub mod Allowed
+pub mod Spans

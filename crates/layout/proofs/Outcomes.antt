@@ -7,7 +7,7 @@ use Prim.Native.Nat.{ℕ}
 use native.Mathlib.Omega.{arith}
 use lib.Dec.{eqb}
 use Rattle.layout.specs.Fields.{Value}
-use Rattle.layout.specs.Outcomes.{Reason, Outcome, refused, read, firstOf, firstNumber, headReasons}
+use Rattle.layout.specs.Outcomes.{Reason, Outcome, refused, read, ifRead, firstOf, firstNumber, headReasons}
 
 -- ---- reasons of no place, as one number
 
@@ -56,3 +56,11 @@ none-last section (r ∷ rs) o h = rw (h .0) (none-last section rs o (h .1))
 -- what the answer that was found says is the outcome
 pub answer-is : {A B : Type 0} (tell : A → B) {a b : A} {o : B} → tell a ≡ o → a ≡ b → o ≡ tell b
 answer-is tell p e = sym p ∙ ap tell e
+
+-- ---- what a section has
+
+-- what holds where it is refused, and where it is read, holds
+pub of-both : {A : Type 0} (P : A → Type 0) (o : Outcome) (x other : A) → P other → ((vs : List Value) → o ≡ read vs → P x) → P (ifRead o x other)
+unfolding ifRead
+of-both P (refused number section place) x other p q = p
+of-both P (read vs) x other p q = q vs refl

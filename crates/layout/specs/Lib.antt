@@ -4,3 +4,4 @@ pub mod Missing
 pub mod Time
 pub mod Examples
 pub mod Shown
+pub mod Spans

@@ -23,6 +23,11 @@ unfoldable pub andThen : Outcome → Outcome → Outcome
 andThen (refused number section place) o = refused number section place
 andThen (read vs) o = o
 
+-- what a section has if it is read; a refused one has another thing in its place
+unfoldable pub ifRead : {A : Type 0} → Outcome → A → A → A
+ifRead (refused number section place) x other = other
+ifRead (read vs) x other = x
+
 -- a reason to refuse a section: whether it holds, its number, its place
 pub record Reason : Type 0 where
   pub holds : Bool

@@ -8,6 +8,7 @@ ghost use Rattle.layout.specs.Fields.{between, notOnes, notZero, means, 
 ghost use Rattle.layout.specs.Outcomes.{headReasons, firstNumber};
 ghost use Rattle.layout.specs.Missing.{in32, inSigned};
 ghost use Rattle.layout.specs.Time.{time, timeIn};
+ghost use Rattle.layout.specs.Spans.{spanAfter};
 
 // Why something was refused: document 01's number, the section asked for, and the place.
 pub struct Refusal {
@@ -187,4 +188,27 @@ pub fn bad_time(s: &[u8], end: u32, later: usize) -> usize
     let hour = octet_within(s, before + 3, 0, 23, minute);
     let day = octet_within(s, before + 2, 1, 31, hour);
     octet_within(s, before + 1, 1, 12, day)
+}
+
+// ---- the parts that a caller is shown
+
+// Where a part stands: how many octets are before it, and how many it has. One without octets stands nowhere: 0 and 0.
+pub struct Span {
+    pub before: usize,
+    pub length: usize,
+}
+
+impl Span {
+    // So many octets behind octet `before`.
+    pub fn after(before: usize, length: usize) -> Self
+        ensures { λ r. ⌜ r ≡ spanAfter before length ⌝ }
+    {
+        if length == 0 {
+            return Self {
+                before: 0,
+                length: 0,
+            };
+        }
+        Self { before, length }
+    }
 }
