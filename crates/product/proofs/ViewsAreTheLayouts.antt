@@ -6,21 +6,26 @@ use native.Mathlib.Omega.{arith}
 use mathlib.Core.Path.{_≡_, refl, ap, sym, _∙_}
 use mathlib.Core.List.{List, [], _∷_}
 use mathlib.Core.Bool.{Bool, true, false, cond}
+use lib.Dec.{ltb}
 use lib.ListN.{length, length-take, length-drop}
-use borrow.Author.Tests.{lt-ltb, le-ltb}
-use Rattle.octets.specs.Octets.{part}
+use borrow.Author.Tests.{lt-ltb, le-ltb, ltb-true}
+use Rattle.octets.specs.Octets.{part, beAt}
 use Rattle.octets.proofs.Laws.{part-add, part-take}
 use Rattle.layout.specs.Fields.{after}
 use Rattle.layout.specs.Shown.{shownOf}
-use Rattle.layout.specs.Outcomes.{refused}
-use Rattle.product.specs.Section4.{partEnd, rangesEnd, total, rangesAt, membersAt, coordinatesAt, fieldsIn, totalIn, outcome₄}
-use Rattle.product.specs.Views.{ifRead, templateRead, rangeBy, membersBy, coordinatesBy, rangeOf, membersOf, coordinatesOf, strung}
+use Rattle.layout.specs.Outcomes.{refused, ifRead}
+use Rattle.layout.specs.Spans.{nowhere, spanAfter, octetsIn, Within}
+use Rattle.layout.specs.declared.Span.{Span}
+use Rattle.layout.proofs.Outcomes.{of-both}
+use Rattle.layout.proofs.Spans.{octets-after, after-within}
+use Rattle.product.specs.Section4.{templateOf, partEnd, rangesEnd, total, rangesAt, membersAt, coordinatesAt, fieldsIn, totalIn, outcome₄}
+use Rattle.product.specs.Views.{templateRead, rangeBy, membersBy, coordinatesBy, rangeSpan, memberSpan, coordinateSpan, rangeOf, membersOf, coordinatesOf, strung}
 use Rattle.product.specs.Accepted.{Follows₄}
 use Rattle.product.specs.declared.PartKind.{PartKind}
 use Rattle.product.specs.declared.Template.{Template}
-use Rattle.product.specs.declared.Template.the-variants.{Listed}
+use Rattle.product.specs.declared.Template.the-variants.{NotListed, Listed}
 use Rattle.product.proofs.Templates.{shown-are}
-use Rattle.product.proofs.AcceptedExactlyWhen.{follows-accepted, follows-total}
+use Rattle.product.proofs.AcceptedExactlyWhen.{accepted-follows, follows-accepted, follows-total}
 
 -- ---- a section that is read
 
@@ -28,8 +33,12 @@ template-is : (kind : PartKind) (timed : Bool) (s : List ℕ) → Follows₄ kin
 unfolding ifRead
 template-is kind timed s f = rw (follows-accepted kind timed s f) (f .names)
 
+-- by a template, the k-th time range
+abbrev rangeShown : Template → List ℕ → ℕ → List ℕ
+rangeShown template s k = octetsIn (rangeBy template s k) s
+
 -- the first m time ranges, of 12 octets each, strung together
-ranges-strung : (kind : PartKind) (s : List ℕ) → partEnd kind + 12 + 12 * rangesAt kind true s ≤ length s → (m : ℕ) → m ≤ rangesAt kind true s → part s (partEnd kind + 12 + 1) (12 * m) ≡ strung (rangeBy (Listed kind true) s) m
+ranges-strung : (kind : PartKind) (s : List ℕ) → partEnd kind + 12 + 12 * rangesAt kind true s ≤ length s → (m : ℕ) → m ≤ rangesAt kind true s → part s (partEnd kind + 12 + 1) (12 * m) ≡ strung (rangeShown (Listed kind true) s) m
 unfolding strung part rangeBy
 ranges-strung kind s room zero h = refl
 ranges-strung kind s room (suc m) h =
@@ -37,12 +46,12 @@ ranges-strung kind s room (suc m) h =
     let next : partEnd kind + 12 + 1 + 12 * m ≡ partEnd kind + 12 + 12 * m + 1 = omega arith in
     rw (one-more, part-add, next, part-take s (partEnd kind + 12 + 12 * m) 12 (omega arith), lt-ltb m (rangesAt kind true s) (omega arith), ranges-strung kind s room m (omega arith))
 
-ranges-by : (kind : PartKind) (timed : Bool) (s : List ℕ) → length s ≡ totalIn kind timed s → cond timed (part s (partEnd kind + 12 + 1) (12 * rangesAt kind timed s)) [] ≡ strung (rangeBy (Listed kind timed) s) (rangesAt kind timed s)
+ranges-by : (kind : PartKind) (timed : Bool) (s : List ℕ) → length s ≡ totalIn kind timed s → cond timed (part s (partEnd kind + 12 + 1) (12 * rangesAt kind timed s)) [] ≡ strung (rangeShown (Listed kind timed) s) (rangesAt kind timed s)
 unfolding total rangesEnd rangesAt strung
 ranges-by kind true s l = ranges-strung kind s (omega arith) (rangesAt kind true s) (omega arith)
 ranges-by kind false s l = refl
 
-views-by : (kind : PartKind) (timed : Bool) (s : List ℕ) → length s ≡ totalIn kind timed s → shownOf (after 0 (fieldsIn kind timed s)) s ≡ strung (rangeBy (Listed kind timed) s) (rangesAt kind timed s) ∷ membersBy (Listed kind timed) s ∷ coordinatesBy (Listed kind timed) s ∷ []
+views-by : (kind : PartKind) (timed : Bool) (s : List ℕ) → length s ≡ totalIn kind timed s → shownOf (after 0 (fieldsIn kind timed s)) s ≡ strung (rangeShown (Listed kind timed) s) (rangesAt kind timed s) ∷ octetsIn (membersBy (Listed kind timed) s) s ∷ octetsIn (coordinatesBy (Listed kind timed) s) s ∷ []
 unfolding total membersBy coordinatesBy
 views-by kind timed s l =
     let end = rangesEnd kind timed (rangesAt kind timed s) in
@@ -51,13 +60,15 @@ views-by kind timed s l =
       ranges-by kind timed s l,
       part-take s end (membersAt kind s) (omega arith),
       part-take s (end + membersAt kind s) (4 * coordinatesAt s) (omega arith),
+      octets-after end (membersAt kind s) s,
+      octets-after (end + membersAt kind s) (4 * coordinatesAt s) s,
     )
 
 -- the three lists that the layout shows are the time ranges, one after the other, the member list and the coordinate list
 pub views-shown : (kind : PartKind) (timed : Bool) (s : List ℕ) → Follows₄ kind timed s → shownOf (after 0 (fieldsIn kind timed s)) s ≡ strung (rangeOf s) (rangesAt kind timed s) ∷ membersOf s ∷ coordinatesOf s ∷ []
 views-shown kind timed s f =
     views-by kind timed s (follows-total kind timed s f)
-    ∙ ap (λ (t : Template). strung (rangeBy t s) (rangesAt kind timed s) ∷ membersBy t s ∷ coordinatesBy t s ∷ []) (sym (template-is kind timed s f))
+    ∙ ap (λ (t : Template). strung (rangeShown t s) (rangesAt kind timed s) ∷ octetsIn (membersBy t s) s ∷ octetsIn (coordinatesBy t s) s ∷ []) (sym (template-is kind timed s f))
 
 -- each time range is whole
 pub range-whole : (kind : PartKind) (timed : Bool) (s : List ℕ) → Follows₄ kind timed s → (k : ℕ) → k < rangesAt kind timed s → length (rangeOf s k) ≡ 12
@@ -66,6 +77,34 @@ range-whole kind true s f k h =
     rw (template-is kind true s f, lt-ltb k (rangesAt kind true s) h)
     (simp (length-take, length-drop) (omega (arith, follows-total kind true s f)))
 range-whole kind false s f k h = absurd (omega arith)
+
+-- ---- where a list is said to stand, the section has its octets
+
+-- it has to be shown of a listed template only, and of a section with its total
+within-by : (by : Template → Span) (s : List ℕ) → by NotListed ≡ nowhere → ((kind : PartKind) (timed : Bool) → length s ≡ totalIn kind timed s → Within (by (Listed kind timed)) s) → Within (by (templateRead s)) s
+within-by by s none some =
+    of-both (λ (t : Template). Within (by t) s) (outcome₄ s) (templateOf (beAt s 8 2)) NotListed (rw none (omega arith))
+    (λ vs e. let f = accepted-follows s vs e in rw (f .2 .names) (some (f .0) (f .1) (follows-total (f .0) (f .1) s (f .2))))
+
+pub range-within : (s : List ℕ) (k : ℕ) → Within (rangeSpan s k) s
+unfolding rangeBy total rangesEnd rangesAt
+range-within s k = within-by (λ (t : Template). rangeBy t s k) s refl (λ kind timed l. by-test kind timed l (ltb k (rangesAt kind timed s)) refl)
+  where
+    room : (kind : PartKind) (timed : Bool) → length s ≡ totalIn kind timed s → k < rangesAt kind timed s → partEnd kind + 12 + 12 * k + 12 ≤ length s
+    room kind true l h = omega arith
+    room kind false l h = absurd (omega arith)
+
+    by-test : (kind : PartKind) (timed : Bool) → length s ≡ totalIn kind timed s → (t : Bool) → ltb k (rangesAt kind timed s) ≡ t → Within (cond t (spanAfter (partEnd kind + 12 + 12 * k) 12) nowhere) s
+    by-test kind timed l true h = room kind timed l (ltb-true _ _ h)
+    by-test kind timed l false h = omega arith
+
+pub members-within : (s : List ℕ) → Within (memberSpan s) s
+unfolding membersBy total
+members-within s = within-by (λ (t : Template). membersBy t s) s refl (λ kind timed l. after-within (rangesEnd kind timed (rangesAt kind timed s)) (membersAt kind s) s (omega arith))
+
+pub coordinates-within : (s : List ℕ) → Within (coordinateSpan s) s
+unfolding coordinatesBy total
+coordinates-within s = within-by (λ (t : Template). coordinatesBy t s) s refl (λ kind timed l. after-within (rangesEnd kind timed (rangesAt kind timed s) + membersAt kind s) (4 * coordinatesAt s) s (omega arith))
 
 -- ---- nothing is shown
 

@@ -8,9 +8,10 @@ ghost use Rattle.layout.specs.Fields.{none, after, badPlace, valuesOf};
 ghost use Rattle.layout.specs.Outcomes.{refused, read, firstOf};
 ghost use Rattle.product.specs.Blocks.{parameter, process, forecast, scaled, surface, ensemble, cluster, probability, aerosol, interval, parameterIn, processIn, forecastIn, scaledIn, surfaceIn, ensembleIn, clusterIn, probabilityIn, aerosolIn, endIn, intervalIn};
 ghost use Rattle.product.specs.Section4.{templateOf, frontEnd, partEnd, rangesEnd, total, rangesAt, membersAt, fieldsIn, values₄, countReasons, asTemplate, outcome₄, PartSays, valuesIn, told, refusalIn};
-ghost use Rattle.product.specs.Views.{templateRead, rangeOf, membersOf, coordinatesOf};
+ghost use Rattle.product.specs.Views.{templateRead, rangeSpan, memberSpan, coordinateSpan, rangeOf, membersOf, coordinatesOf};
 use layout::I32OrMissing;
 use layout::Refusal;
+use layout::Span;
 use layout::Time;
 use layout::U32OrMissing;
 
@@ -498,7 +499,7 @@ fn read_end(section: &[u8], end: u16) -> IntervalEnd
     }
 }
 
-// ---- the lists, shown as those very octets of the section: empty where the section is refused or has none
+// ---- where the lists stand: nowhere where the section is refused or has none
 
 // The template by which a section is read, if it is.
 fn template_read(section: &[u8]) -> Template
@@ -511,42 +512,65 @@ fn template_read(section: &[u8]) -> Template
     template_of(octets::u16_at(section, 8))
 }
 
-// The k-th time range (from 0), empty from n up.
-pub fn time_range(section: &[u8], k: usize) -> &[u8]
-    ensures { λ r. ⌜ now r ≡ rangeOf (now (section .entry)) k ⌝ }
+// The k-th time range (from 0), nowhere from n up.
+pub fn range_span(section: &[u8], k: usize) -> Span
+    ensures { λ r. ⌜ r ≡ rangeSpan (now (section .entry)) k ⌝ }
 {
     let template = template_read(section);
     let Template::Listed { kind, timed } = template else {
-        return &section[..0];
+        return Span::after(0, 0);
     };
     if range_count(section, kind, timed) as usize <= k {
-        return &section[..0];
+        return Span::after(0, 0);
     }
-    octets::part_after(section, part_end(kind) as usize + 12 + 12 * k, 12)
+    Span::after(part_end(kind) as usize + 12 + 12 * k, 12)
 }
 
 // The numbers of a cluster's members, an octet each.
-pub fn member_list(section: &[u8]) -> &[u8]
-    ensures { λ r. ⌜ now r ≡ membersOf (now (section .entry)) ⌝ }
+pub fn member_span(section: &[u8]) -> Span
+    ensures { λ r. ⌜ r ≡ memberSpan (now (section .entry)) ⌝ }
 {
     let template = template_read(section);
     let Template::Listed { kind, timed } = template else {
-        return &section[..0];
+        return Span::after(0, 0);
     };
     let end = ranges_end(kind, timed, range_count(section, kind, timed));
-    octets::part_after(section, end as usize, member_count(section, kind) as usize)
+    Span::after(end as usize, member_count(section, kind) as usize)
 }
 
 // The coordinate values, four octets each.
-pub fn coordinate_list(section: &[u8]) -> &[u8]
-    ensures { λ r. ⌜ now r ≡ coordinatesOf (now (section .entry)) ⌝ }
+pub fn coordinate_span(section: &[u8]) -> Span
+    ensures { λ r. ⌜ r ≡ coordinateSpan (now (section .entry)) ⌝ }
 {
     let template = template_read(section);
     let Template::Listed { kind, timed } = template else {
-        return &section[..0];
+        return Span::after(0, 0);
     };
     let end = ranges_end(kind, timed, range_count(section, kind, timed));
     let members = member_count(section, kind) as usize;
     let values = octets::u16_at(section, 6) as usize;
-    octets::part_after(section, end as usize + members, 4 * values)
+    Span::after(end as usize + members, 4 * values)
+}
+
+// ---- the lists, shown as those very octets of the section
+
+pub fn time_range(section: &[u8], k: usize) -> &[u8]
+    ensures { λ r. ⌜ now r ≡ rangeOf (now (section .entry)) k ⌝ }
+{
+    let span = range_span(section, k);
+    octets::part_after(section, span.before, span.length)
+}
+
+pub fn member_list(section: &[u8]) -> &[u8]
+    ensures { λ r. ⌜ now r ≡ membersOf (now (section .entry)) ⌝ }
+{
+    let span = member_span(section);
+    octets::part_after(section, span.before, span.length)
+}
+
+pub fn coordinate_list(section: &[u8]) -> &[u8]
+    ensures { λ r. ⌜ now r ≡ coordinatesOf (now (section .entry)) ⌝ }
+{
+    let span = coordinate_span(section);
+    octets::part_after(section, span.before, span.length)
 }

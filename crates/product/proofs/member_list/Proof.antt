@@ -1,39 +1,9 @@
 use Rattle.octets.proofs.Free.{free}
-use Rattle.product.specs.Views.{membersBy}
-use borrow.Author.Needs.{needs}
 use Rattle.product.proofs.member_list.Statement.{statement}
 use Rattle.product.proofs.member_list.Tie as tie
 
 returns : tie.Need-returns
-unfolding membersBy
-returns c = simp (← c .before .before .before .template-read .ensures, c .before .enum-told .given .1)
-
-returns-2 : tie.Need-returns-2
-unfolding membersBy
-returns-2 c =
-    let d = c .before .before .before in
-    simp (
-      ← d .before .before .before .before .template-read .ensures,
-      d .before .before .template .given .1,
-      ← d .range-count .ensures,
-      ← c .before .before .ranges-end .ensures,
-      ← c .before .member-count .ensures,
-    )
-    (c .part-after .ensures)
+returns c = rw (← c .before .member-span .ensures) (c .part-after .ensures)
 
 pub member-list-spec : {M : Type 1} → statement M
-member-list-spec =
-    tie.close
-    (tie.spec
-    free
-    (λ c. search needs)
-    (λ c. search needs)
-    (λ c. search needs)
-    returns
-    free
-    free
-    (λ c. search needs)
-    free
-    (λ c. search needs)
-    free
-    returns-2)
+member-list-spec = tie.close (tie.spec free free returns)

@@ -1,6 +1,6 @@
 use Rattle.octets.proofs.Free.{free}
+use Rattle.layout.specs.Outcomes.{ifRead}
 use Rattle.product.specs.Section4.{told}
-use Rattle.product.specs.Views.{ifRead}
 use Rattle.layout.proofs.Outcomes.{answer-is}
 use borrow.Author.Needs.{needs}
 use Rattle.product.proofs.template_read.Statement.{statement}

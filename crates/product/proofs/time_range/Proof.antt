@@ -1,55 +1,9 @@
 use Rattle.octets.proofs.Free.{free}
-use borrow.Author.Tests.{le-ltb, lt-ltb}
-use Rattle.product.specs.Views.{rangeBy}
-use borrow.Author.Needs.{needs}
 use Rattle.product.proofs.time_range.Statement.{statement}
 use Rattle.product.proofs.time_range.Tie as tie
 
 returns : tie.Need-returns
-unfolding rangeBy
-returns c = simp (← c .before .before .before .template-read .ensures, c .before .enum-told .given .1)
-
-returns-2 : tie.Need-returns-2
-unfolding rangeBy
-returns-2 c =
-    let d = c .before .before in
-    simp (
-      ← d .before .before .before .before .template-read .ensures,
-      d .before .before .template .given .1,
-      ← d .range-count .ensures,
-      le-ltb _ _ (c .before .if1 .taken),
-    )
-
-returns-3 : tie.Need-returns-3
-unfolding rangeBy
-returns-3 c =
-    let d = c .before .before .before in
-    simp (
-      ← d .before .before .before .before .template-read .ensures,
-      d .before .before .template .given .1,
-      ← d .range-count .ensures,
-      lt-ltb _ _ (c .before .before .if1 .left),
-      ← c .before .part-end .ensures,
-    )
-    (c .part-after .ensures)
+returns c = rw (← c .before .range-span .ensures) (c .part-after .ensures)
 
 pub time-range-spec : {M : Type 1} → statement M
-time-range-spec =
-    tie.close
-    (tie.spec
-    free
-    (λ c. search needs)
-    (λ c. search needs)
-    (λ c. search needs)
-    returns
-    free
-    (λ c. search needs)
-    (λ c. search needs)
-    returns-2
-    free
-    (λ c. search needs)
-    (λ c. search needs)
-    (λ c. search needs)
-    (λ c. search needs)
-    free
-    returns-3)
+time-range-spec = tie.close (tie.spec free free returns)
