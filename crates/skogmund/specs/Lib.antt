@@ -1,3 +1,4 @@
 pub mod Entries
 pub mod Records
 pub mod Letters
+pub mod Parts

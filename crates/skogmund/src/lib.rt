@@ -7,7 +7,8 @@ ghost use Rattle.skogmund.specs.Entries.{codeOf, coded, Listed};
 use layout::Refusal;
 use packing::Unpacked;
 
-mod record;
+pub mod part;
+pub mod record;
 
 // 18 x 2^40: 18, of no section and no place.
 pub(crate) const NO_ROOM: u64 = 19791209299968;
