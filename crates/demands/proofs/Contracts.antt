@@ -6,7 +6,7 @@ use denote.Ref.{now}
 use Rattle.identification.specs.Section1 as one
 use Rattle.grid.specs.Section3 as three
 use Rattle.product.specs.Section4 as four
-use Rattle.product.specs.Views.{rangeOf, membersOf, coordinatesOf}
+use Rattle.product.specs.Views.{rangeSpan, memberSpan, coordinateSpan, rangeOf, membersOf, coordinatesOf}
 use Rattle.packing.specs.Section5 as five
 use Rattle.packing.specs.Section7 as seven
 use Rattle.packing.specs.Unpacking.{Unpacks}
@@ -17,10 +17,15 @@ use Rattle.filing.specs.declared.Issue.the-variants.{NotNamed}
 use Rattle.queue.specs.Queues.{recordIn, recordFiled, queueFiled}
 use Rattle.text.specs.Text.{written, startsWith}
 use Rattle.report.specs.Texts.{listing, explanation}
+use Rattle.skogmund.specs.Parts.{Stands}
 use Rattle.identification.proofs.read.Reads as read₁
 use Rattle.grid.proofs.read.Reads as read₃
+use Rattle.grid.proofs.list_span.Reads as list-span
 use Rattle.grid.proofs.list.Reads as list
 use Rattle.product.proofs.read.Reads as read₄
+use Rattle.product.proofs.range_span.Reads as range-span
+use Rattle.product.proofs.member_span.Reads as member-span
+use Rattle.product.proofs.coordinate_span.Reads as coordinate-span
 use Rattle.product.proofs.time_range.Reads as time-range
 use Rattle.product.proofs.member_list.Reads as member-list
 use Rattle.product.proofs.coordinate_list.Reads as coordinate-list
@@ -37,6 +42,7 @@ use Rattle.queue.proofs.file_record.Reads as file-record
 use Rattle.queue.proofs.file.Reads as file-queue
 use Rattle.report.proofs.whole_listing.Reads as whole-listing
 use Rattle.report.proofs.whole_explanation.Reads as whole-explanation
+use Rattle.skogmund.proofs.part.skogmund_part.Reads as skogmund-part
 
 pub identification-read : (lent : _) (given : _) (r : _) (later : _) → read₁.Learnt lent given r later → one.told r ≡ one.outcome₁ (now (given .0))
 identification-read lent given r later e = e
@@ -44,11 +50,23 @@ identification-read lent given r later e = e
 pub grid-read : (lent : _) (given : _) (r : _) (later : _) → read₃.Learnt lent given r later → three.told r ≡ three.outcome₃ (now (given .0))
 grid-read lent given r later e = e
 
+pub grid-list-span : (lent : _) (given : _) (r : _) (later : _) → list-span.Learnt lent given r later → r ≡ three.listSpan (now (given .0))
+grid-list-span lent given r later e = e
+
 pub grid-list : (lent : _) (given : _) (r : _) (later : _) → list.Learnt lent given r later → now r ≡ three.list₃ (now (given .0))
 grid-list lent given r later e = e
 
 pub product-read : (lent : _) (given : _) (r : _) (later : _) → read₄.Learnt lent given r later → four.told r ≡ four.outcome₄ (now (given .0))
 product-read lent given r later e = e
+
+pub product-range-span : (lent : _) (given : _) (r : _) (later : _) → range-span.Learnt lent given r later → r ≡ rangeSpan (now (given .0)) (given .1 .0)
+product-range-span lent given r later e = e
+
+pub product-member-span : (lent : _) (given : _) (r : _) (later : _) → member-span.Learnt lent given r later → r ≡ memberSpan (now (given .0))
+product-member-span lent given r later e = e
+
+pub product-coordinate-span : (lent : _) (given : _) (r : _) (later : _) → coordinate-span.Learnt lent given r later → r ≡ coordinateSpan (now (given .0))
+product-coordinate-span lent given r later e = e
 
 pub product-time-range : (lent : _) (given : _) (r : _) (later : _) → time-range.Learnt lent given r later → now r ≡ rangeOf (now (given .0)) (given .1 .0)
 product-time-range lent given r later e = e
@@ -97,3 +115,6 @@ report-whole-listing lent given r later e = e
 
 pub report-whole-explanation : (lent : _) (given : _) (r : _) (later : _) → whole-explanation.Learnt lent given r later → written (now (later .1 .0)) r ≡ startsWith (now (given .1 .0)) (explanation (now (given .0)))
 report-whole-explanation lent given r later e = e
+
+pub skogmund-tells-part : (lent : _) (given : _) (r : _) (later : _) → skogmund-part.Learnt lent given r later → Stands (given .0) (now (given .1 .0)) (given .1 .1 .0) (now (given .1 .1 .1 .0)) r (now (later .1 .1 .1 .0))
+skogmund-tells-part lent given r later e = e

@@ -6,16 +6,20 @@
 use Prim.Native.Nat.{ℕ, zero, suc, _+_, _*_, _<_, _≤_}
 use native.Mathlib.Omega.{arith}
 use mathlib.Core.Path.{_≡_, refl, sym, ap, subst, _∙_}
-use mathlib.Core.Bool.{Bool}
+use mathlib.Core.Bool.{Bool, cond}
 use mathlib.Core.Logic.{_↔_}
 use mathlib.Core.List.{List, [], _∷_}
-use lib.ListN.{length, getD, drop}
+use lib.Dec.{eqb}
+use lib.ListN.{length, getD, take, drop}
+use borrow.Author.Tests.{ne-eqb}
 use Rattle.octets.specs.Octets.{part}
+use Rattle.octets.proofs.Laws.{part-take}
 use Rattle.layout.specs.Fields.{Value, plain, after, valuesOf, octetsOf}
 use Rattle.layout.specs.Outcomes.{Outcome, refused, read, andThen, firstOf}
 use Rattle.layout.proofs.Outcomes.{NoneHold, read-none}
 use Rattle.layout.proofs.Ranges.{test-same, same-test}
 use Rattle.layout.specs.Shown.{shownOf}
+use Rattle.layout.specs.Spans.{octetsIn, Within}
 use Rattle.identification.specs.Section1 as one
 use Rattle.identification.specs.Accepted.{Follows₁}
 use Rattle.identification.specs.declared.Answer.{Answer as Answer₁}
@@ -63,6 +67,8 @@ use Rattle.field.specs.declared.Answer.{Answer as FieldAnswer}
 use Rattle.field.specs.declared.Answer.the-variants.{Read as ReadField}
 use Rattle.field.specs.declared.Field.{Field as WholeField}
 use Rattle.field.proofs.AcceptedExactlyWhen.{accepted-exactly-when as exactly-field}
+use Rattle.skogmund.specs.Parts.{partSpan, firstOctet}
+use Rattle.skogmund.proofs.PartsWithin.{part-within}
 use Rattle.demands.specs.Accepted.{Accepted}
 
 -- ---- an outcome is accepted if it is some record's values
@@ -179,6 +185,21 @@ no-range-from-n-up = no-range
 
 pub no-views-of-section-4 : (s : List ℕ) (number section place : ℕ) → four.outcome₄ s ≡ refused number section place → ((k : ℕ) → rangeOf s k ≡ []) × (membersOf s ≡ []) × (coordinatesOf s ≡ [])
 no-views-of-section-4 = refused-nothing
+
+-- where C is told that a part stands, the section has all of its octets
+pub parts-within : (part : ℕ) (s : List ℕ) (k : ℕ) → Within (partSpan part s k) s
+parts-within = part-within
+
+-- and they are those that the view shows: from that octet on, so many
+octets-told : (before n : ℕ) (s : List ℕ) → before + n ≤ length s → part s (cond (eqb n 0) 0 (before + 1)) n ≡ take n (drop before s)
+unfolding part
+octets-told before zero s h = refl
+octets-told before (suc n) s h = rw (ne-eqb (suc n) 0 (λ e. omega arith)) (part-take s before (suc n) h)
+
+pub parts-told : (part-number : ℕ) (s : List ℕ) (k : ℕ) → part s (firstOctet (partSpan part-number s k)) (partSpan part-number s k .length) ≡ octetsIn (partSpan part-number s k) s
+parts-told part-number s k =
+    let x = partSpan part-number s k in
+    octets-told (x .before) (x .length) s (part-within part-number s k)
 
 -- ---- unpacking: number k is what the bits from k x bits on stand for, the most significant first
 

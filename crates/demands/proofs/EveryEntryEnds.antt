@@ -49,6 +49,8 @@ use Rattle.layout.proofs.read_time.Statement as layout-read-time
 use Rattle.layout.proofs.read_time.Met as layout-read-time-met
 use Rattle.layout.proofs.bad_time.Statement as layout-bad-time
 use Rattle.layout.proofs.bad_time.Met as layout-bad-time-met
+use Rattle.layout.proofs.Span.after.Statement as layout-span-after
+use Rattle.layout.proofs.Span.after.Met as layout-span-after-met
 use Rattle.identification.proofs.read.Statement as identification-read
 use Rattle.identification.proofs.read.Met as identification-read-met
 use Rattle.identification.proofs.refusal_of.Statement as identification-refusal-of
@@ -57,6 +59,8 @@ use Rattle.grid.proofs.read.Statement as grid-read
 use Rattle.grid.proofs.read.Met as grid-read-met
 use Rattle.grid.proofs.list.Statement as grid-list
 use Rattle.grid.proofs.list.Met as grid-list-met
+use Rattle.grid.proofs.list_span.Statement as grid-list-span
+use Rattle.grid.proofs.list_span.Met as grid-list-span-met
 use Rattle.grid.proofs.refusal_of.Statement as grid-refusal-of
 use Rattle.grid.proofs.refusal_of.Met as grid-refusal-of-met
 use Rattle.product.proofs.read.Statement as product-read
@@ -69,6 +73,12 @@ use Rattle.product.proofs.member_list.Statement as product-member-list
 use Rattle.product.proofs.member_list.Met as product-member-list-met
 use Rattle.product.proofs.coordinate_list.Statement as product-coordinate-list
 use Rattle.product.proofs.coordinate_list.Met as product-coordinate-list-met
+use Rattle.product.proofs.range_span.Statement as product-range-span
+use Rattle.product.proofs.range_span.Met as product-range-span-met
+use Rattle.product.proofs.member_span.Statement as product-member-span
+use Rattle.product.proofs.member_span.Met as product-member-span-met
+use Rattle.product.proofs.coordinate_span.Statement as product-coordinate-span
+use Rattle.product.proofs.coordinate_span.Met as product-coordinate-span-met
 use Rattle.packing.proofs.read.Statement as packing-read
 use Rattle.packing.proofs.read.Met as packing-read-met
 use Rattle.packing.proofs.read_data.Statement as packing-read-data
@@ -139,6 +149,8 @@ use Rattle.skogmund.proofs.skogmund_unpack.Statement as skogmund-unpack
 use Rattle.skogmund.proofs.skogmund_unpack.Met as skogmund-unpack-met
 use Rattle.skogmund.proofs.skogmund_list.Statement as skogmund-list
 use Rattle.skogmund.proofs.skogmund_list.Met as skogmund-list-met
+use Rattle.skogmund.proofs.part.skogmund_part.Statement as skogmund-part
+use Rattle.skogmund.proofs.part.skogmund_part.Met as skogmund-part-met
 use Rattle.standard.proofs.read_all.Statement as standard-read-all
 use Rattle.standard.proofs.read_all.Met as standard-read-all-met
 use Rattle.standard.proofs.read_failed.Statement as standard-read-failed
@@ -222,6 +234,9 @@ layout-read-time-ends = layout-read-time-met.met
 pub layout-bad-time-ends : {M : Type 1} → layout-bad-time.statement M
 layout-bad-time-ends = layout-bad-time-met.met
 
+pub layout-span-after-ends : {M : Type 1} → layout-span-after.statement M
+layout-span-after-ends = layout-span-after-met.met
+
 -- ---- identification
 
 pub identification-read-ends : {M : Type 1} → identification-read.statement M
@@ -237,6 +252,9 @@ grid-read-ends = grid-read-met.met
 
 pub grid-list-ends : {M : Type 1} → grid-list.statement M
 grid-list-ends = grid-list-met.met
+
+pub grid-list-span-ends : {M : Type 1} → grid-list-span.statement M
+grid-list-span-ends = grid-list-span-met.met
 
 pub grid-refusal-of-ends : {M : Type 1} → grid-refusal-of.statement M
 grid-refusal-of-ends = grid-refusal-of-met.met
@@ -257,6 +275,15 @@ product-member-list-ends = product-member-list-met.met
 
 pub product-coordinate-list-ends : {M : Type 1} → product-coordinate-list.statement M
 product-coordinate-list-ends = product-coordinate-list-met.met
+
+pub product-range-span-ends : {M : Type 1} → product-range-span.statement M
+product-range-span-ends = product-range-span-met.met
+
+pub product-member-span-ends : {M : Type 1} → product-member-span.statement M
+product-member-span-ends = product-member-span-met.met
+
+pub product-coordinate-span-ends : {M : Type 1} → product-coordinate-span.statement M
+product-coordinate-span-ends = product-coordinate-span-met.met
 
 -- ---- packing
 
@@ -391,3 +418,6 @@ skogmund-unpack-ends = skogmund-unpack-met.met
 
 pub skogmund-list-ends : {M : Type 1} → skogmund-list.statement M
 skogmund-list-ends = skogmund-list-met.met
+
+pub skogmund-part-ends : {M : Type 1} → skogmund-part.statement M
+skogmund-part-ends = skogmund-part-met.met

@@ -34,16 +34,21 @@ use Rattle.layout.proofs.signed8_or_missing.Reads as layout-signed8-or-missing
 use Rattle.layout.proofs.signed32_or_missing.Reads as layout-signed32-or-missing
 use Rattle.layout.proofs.read_time.Reads as layout-read-time
 use Rattle.layout.proofs.bad_time.Reads as layout-bad-time
+use Rattle.layout.proofs.Span.after.Reads as layout-span-after
 use Rattle.identification.proofs.read.Reads as identification-read
 use Rattle.identification.proofs.refusal_of.Reads as identification-refusal-of
 use Rattle.grid.proofs.read.Reads as grid-read
 use Rattle.grid.proofs.list.Reads as grid-list
+use Rattle.grid.proofs.list_span.Reads as grid-list-span
 use Rattle.grid.proofs.refusal_of.Reads as grid-refusal-of
 use Rattle.product.proofs.read.Reads as product-read
 use Rattle.product.proofs.refusal_of.Reads as product-refusal-of
 use Rattle.product.proofs.time_range.Reads as product-time-range
 use Rattle.product.proofs.member_list.Reads as product-member-list
 use Rattle.product.proofs.coordinate_list.Reads as product-coordinate-list
+use Rattle.product.proofs.range_span.Reads as product-range-span
+use Rattle.product.proofs.member_span.Reads as product-member-span
+use Rattle.product.proofs.coordinate_span.Reads as product-coordinate-span
 use Rattle.packing.proofs.read.Reads as packing-read
 use Rattle.packing.proofs.read_data.Reads as packing-read-data
 use Rattle.packing.proofs.unpack.Reads as packing-unpack
@@ -79,6 +84,7 @@ use Rattle.report.proofs.listing.Reads as report-listing
 use Rattle.report.proofs.explanation.Reads as report-explanation
 use Rattle.skogmund.proofs.skogmund_unpack.Reads as skogmund-unpack
 use Rattle.skogmund.proofs.skogmund_list.Reads as skogmund-list
+use Rattle.skogmund.proofs.part.skogmund_part.Reads as skogmund-part
 use Rattle.standard.proofs.read_all.Reads as standard-read-all
 use Rattle.standard.proofs.read_failed.Reads as standard-read-failed
 use Rattle.standard.proofs.print.Reads as standard-print
@@ -160,6 +166,9 @@ layout-read-time-takes lent given = tt
 pub layout-bad-time-takes : TakesEvery layout-bad-time.Asked
 layout-bad-time-takes lent given = tt
 
+pub layout-span-after-takes : TakesEvery layout-span-after.Asked
+layout-span-after-takes lent given = tt
+
 -- ---- identification
 
 pub identification-read-takes : TakesEvery identification-read.Asked
@@ -175,6 +184,9 @@ grid-read-takes lent given = tt
 
 pub grid-list-takes : TakesEvery grid-list.Asked
 grid-list-takes lent given = tt
+
+pub grid-list-span-takes : TakesEvery grid-list-span.Asked
+grid-list-span-takes lent given = tt
 
 pub grid-refusal-of-takes : TakesEvery grid-refusal-of.Asked
 grid-refusal-of-takes lent given = tt
@@ -195,6 +207,15 @@ product-member-list-takes lent given = tt
 
 pub product-coordinate-list-takes : TakesEvery product-coordinate-list.Asked
 product-coordinate-list-takes lent given = tt
+
+pub product-range-span-takes : TakesEvery product-range-span.Asked
+product-range-span-takes lent given = tt
+
+pub product-member-span-takes : TakesEvery product-member-span.Asked
+product-member-span-takes lent given = tt
+
+pub product-coordinate-span-takes : TakesEvery product-coordinate-span.Asked
+product-coordinate-span-takes lent given = tt
 
 -- ---- packing
 
@@ -330,3 +351,6 @@ skogmund-unpack-takes lent given = tt
 
 pub skogmund-list-takes : TakesEvery skogmund-list.Asked
 skogmund-list-takes lent given = tt
+
+pub skogmund-part-takes : TakesEvery skogmund-part.Asked
+skogmund-part-takes lent given = tt
