@@ -11,7 +11,7 @@ use lib.Seq.{take-all}
 use Rattle.octets.specs.Octets.{part, beAt}
 use Rattle.octets.proofs.Laws.{part-take, beAt-drop}
 use Rattle.layout.specs.Outcomes.{refused, ifRead}
-use Rattle.layout.specs.Spans.{nowhere, spanAfter, octetsIn, Within}
+use Rattle.layout.specs.Spans.{nowhere, spanAfter, Within}
 use Rattle.layout.specs.declared.Span.{Span}
 use Rattle.layout.proofs.Outcomes.{of-both}
 use Rattle.layout.proofs.Spans.{octets-after, after-within}

@@ -1,6 +1,6 @@
 // What the readers of sections share: refusals and their first four numbers, places of fields out of their range, numbers
-// that may be missing, and the time that stands in two sections. Octets are counted from 1; `end` is the octet after which
-// a block of fields stands. Every function takes every input.
+// that may be missing, the time that stands in two sections, and where a part of one stands. Octets are counted from 1; `end` is
+// the octet after which a block of fields stands. Every function takes every input.
 ghost use mathlib.Core.Path.{_≡_};
 ghost use mathlib.Core.Bool.{cond};
 ghost use Rattle.octets.specs.Octets.{beAt};
