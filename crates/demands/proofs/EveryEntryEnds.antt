@@ -151,6 +151,8 @@ use Rattle.skogmund.proofs.skogmund_list.Statement as skogmund-list
 use Rattle.skogmund.proofs.skogmund_list.Met as skogmund-list-met
 use Rattle.skogmund.proofs.part.skogmund_part.Statement as skogmund-part
 use Rattle.skogmund.proofs.part.skogmund_part.Met as skogmund-part-met
+use Rattle.skogmund.proofs.record.skogmund_read.Statement as skogmund-read
+use Rattle.skogmund.proofs.record.skogmund_read.Met as skogmund-read-met
 use Rattle.standard.proofs.read_all.Statement as standard-read-all
 use Rattle.standard.proofs.read_all.Met as standard-read-all-met
 use Rattle.standard.proofs.read_failed.Statement as standard-read-failed
@@ -421,3 +423,6 @@ skogmund-list-ends = skogmund-list-met.met
 
 pub skogmund-part-ends : {M : Type 1} → skogmund-part.statement M
 skogmund-part-ends = skogmund-part-met.met
+
+pub skogmund-read-ends : {M : Type 1} → skogmund-read.statement M
+skogmund-read-ends = skogmund-read-met.met

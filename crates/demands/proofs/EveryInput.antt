@@ -85,6 +85,7 @@ use Rattle.report.proofs.explanation.Reads as report-explanation
 use Rattle.skogmund.proofs.skogmund_unpack.Reads as skogmund-unpack
 use Rattle.skogmund.proofs.skogmund_list.Reads as skogmund-list
 use Rattle.skogmund.proofs.part.skogmund_part.Reads as skogmund-part
+use Rattle.skogmund.proofs.record.skogmund_read.Reads as skogmund-read
 use Rattle.standard.proofs.read_all.Reads as standard-read-all
 use Rattle.standard.proofs.read_failed.Reads as standard-read-failed
 use Rattle.standard.proofs.print.Reads as standard-print
@@ -354,3 +355,6 @@ skogmund-list-takes lent given = tt
 
 pub skogmund-part-takes : TakesEvery skogmund-part.Asked
 skogmund-part-takes lent given = tt
+
+pub skogmund-read-takes : TakesEvery skogmund-read.Asked
+skogmund-read-takes lent given = tt

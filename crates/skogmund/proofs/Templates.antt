@@ -31,7 +31,7 @@ use Rattle.product.specs.declared.Template.the-variants.{NotListed, Listed}
 use Rattle.product.proofs.AcceptedExactlyWhen.{accepted-follows as follows₄}
 use Rattle.packing.specs.Section5.{fields₅, outcome₅}
 use Rattle.packing.proofs.AcceptedExactlyWhen.{accepted-follows₅}
-use Rattle.skogmund.specs.Records.{numbersOf, numbersIn, counted, Stands, outcome₇alone}
+use Rattle.skogmund.specs.Records.{numbersOf, numbersIn, counted, PutsRecord, outcome₇alone}
 use Rattle.skogmund.specs.Letters.{kindOf, numbersBy}
 use Rattle.skogmund.proofs.Words.{spelt, spelt-numbers}
 
@@ -78,7 +78,7 @@ numbers₁ : (t : Template₁) (s : List ℕ) → numbersIn (values₁ t s) ≡ 
 unfolding values₁
 numbers₁ t s = then-last _ (realYearAt t s) ∙ ap (λ (ns : List ℤ). ns ++ (realYearAt t s ∷ [])) (spelt-numbers (fields₁ t) (word₁ t) 0 1 s (spelt₁ t))
 
-pub row₁ : (s : List ℕ) (t : Template₁) (row row′ : List ℤ) → template₁ s ≡ t → row′ ≡ counted (numbersBy (word₁ t) 1 s ++ (realYearAt t s ∷ [])) row → Stands (outcome₁ s) row row′
+pub row₁ : (s : List ℕ) (t : Template₁) (row row′ : List ℤ) → template₁ s ≡ t → row′ ≡ counted (numbersBy (word₁ t) 1 s ++ (realYearAt t s ∷ [])) row → PutsRecord (outcome₁ s) row row′
 row₁ s t row row′ by e vs accepted =
     let f = follows₁ s vs accepted in
     let same = template-is (f .0) s (f .1) ∙ by in
@@ -99,7 +99,7 @@ spelt₃ Rotated n = refl
 spelt₃ Stretched n = refl
 spelt₃ StretchedAndRotated n = refl
 
-pub row₃ : (s : List ℕ) (t : Template₃) (row row′ : List ℤ) → templateNumbered (beAt s 13 2) ≡ t → row′ ≡ counted (numbersBy (word₃ t) 1 s) row → Stands (outcome₃ s) row row′
+pub row₃ : (s : List ℕ) (t : Template₃) (row row′ : List ℤ) → templateNumbered (beAt s 13 2) ≡ t → row′ ≡ counted (numbersBy (word₃ t) 1 s) row → PutsRecord (outcome₃ s) row row′
 unfolding values₃
 row₃ s t row row′ by e vs accepted =
     let f = follows₃ s vs accepted in
@@ -135,7 +135,7 @@ spelt₄ Probability false n nc nv = refl
 spelt₄ Aerosol true n nc nv = refl
 spelt₄ Aerosol false n nc nv = refl
 
-pub row₄ : (s : List ℕ) (t : Template₄) (row row′ : List ℤ) → templateOf (beAt s 8 2) ≡ t → row′ ≡ counted (numbersBy (word₄ t) 1 s) row → Stands (outcome₄ s) row row′
+pub row₄ : (s : List ℕ) (t : Template₄) (row row′ : List ℤ) → templateOf (beAt s 8 2) ≡ t → row′ ≡ counted (numbersBy (word₄ t) 1 s) row → PutsRecord (outcome₄ s) row row′
 row₄ s t row row′ by e vs accepted =
     let f = follows₄ s vs accepted in
     let same = sym (f .2 .names) ∙ by in
@@ -146,11 +146,11 @@ row₄ s t row row′ by e vs accepted =
 
 -- ---- sections 5 and 7
 
-pub row₅ : (s : List ℕ) (row row′ : List ℤ) → row′ ≡ counted (numbersBy (ascii "41424bb11") 1 s) row → Stands (outcome₅ s) row row′
+pub row₅ : (s : List ℕ) (row row′ : List ℤ) → row′ ≡ counted (numbersBy (ascii "41424bb11") 1 s) row → PutsRecord (outcome₅ s) row row′
 unfolding spelt kindOf fields₅
 row₅ s row row′ e vs accepted = stands row vs e (ap numbersIn (accepted-follows₅ s vs accepted .1) ∙ spelt-numbers fields₅ (ascii "41424bb11") 0 1 s refl)
 
-pub row₇ : (s : List ℕ) (row row′ : List ℤ) → row′ ≡ counted (numbersBy (ascii "41") 1 s) row → Stands (outcome₇alone s) row row′
+pub row₇ : (s : List ℕ) (row row′ : List ℤ) → row′ ≡ counted (numbersBy (ascii "41") 1 s) row → PutsRecord (outcome₇alone s) row row′
 unfolding outcome₇alone numbersIn numbersBy kindOf
 row₇ s row row′ e vs accepted =
     let last = read-none 7 (headReasons 7 s) _ vs accepted .1 in

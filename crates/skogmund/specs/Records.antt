@@ -53,8 +53,8 @@ sectionOutcome section s =
     (refused 4 section 0)))))
 
 -- where a section is accepted, its record stands in the row
-abbrev pub Stands : Outcome → List ℤ → List ℤ → Type 0
-Stands o row row′ = (vs : List Value) → o ≡ read vs → row′ ≡ counted (numbersIn vs) row
+abbrev pub PutsRecord : Outcome → List ℤ → List ℤ → Type 0
+PutsRecord o row row′ = (vs : List Value) → o ≡ read vs → row′ ≡ counted (numbersIn vs) row
 
 -- the refusal that an outcome is; of none, zeros
 abbrev pub refusalOf : Outcome → Refusal
@@ -73,10 +73,10 @@ intoRow (refused number section place) row = refused number section place
 intoRow (read vs) row = cond (ltb (length row) 64) (refused 18 0 0) (read vs)
 
 -- a refusal leaves the row as it was
-unfoldable pub rowAfter : Outcome → List ℤ → List ℤ
-rowAfter (refused number section place) row = row
-rowAfter (read vs) row = counted (numbersIn vs) row
+unfoldable pub valuesAfter : Outcome → List ℤ → List ℤ
+valuesAfter (refused number section place) row = row
+valuesAfter (read vs) row = counted (numbersIn vs) row
 
 pub record ReadInto (section : ℕ) (s : List ℕ) (row : List ℤ) (answer : ℕ) (row′ : List ℤ) : Type 0 where
   pub answers : answer ≡ coded (intoRow (sectionOutcome section s) row)
-  pub writes : row′ ≡ rowAfter (intoRow (sectionOutcome section s) row) row
+  pub writes : row′ ≡ valuesAfter (intoRow (sectionOutcome section s) row) row

@@ -10,7 +10,7 @@ ghost use Rattle.layout.specs.Missing.{in32, inSigned};
 ghost use Rattle.identification.specs.Section1.{outcome₁};
 ghost use Rattle.grid.specs.Section3.{outcome₃};
 ghost use Rattle.product.specs.Section4.{outcome₄};
-ghost use Rattle.skogmund.specs.Records.{ReadInto, sectionOutcome, refusalOf, refusalNumbered, counted, Stands};
+ghost use Rattle.skogmund.specs.Records.{ReadInto, sectionOutcome, refusalOf, refusalNumbered, counted, PutsRecord};
 ghost use Rattle.skogmund.specs.Letters.{kindOf, numberOf, numberBy, numbersBy};
 use layout::I32OrMissing;
 use layout::Refusal;
@@ -68,7 +68,7 @@ fn numbered(number: u8, section: u8) -> Refusal
 // The record of an accepted section.
 fn put_record(section: u8, s: &[u8], values: &mut [i64])
     requires { do ⌜ 64 ≤ (← ⟦values.len()⟧) ⌝ }
-    ensures { λ _. ⌜ Stands (sectionOutcome section (now (s .entry))) (now (values .entry)) (now (values .exit)) ⌝ }
+    ensures { λ _. ⌜ PutsRecord (sectionOutcome section (now (s .entry))) (now (values .entry)) (now (values .exit)) ⌝ }
 {
     match section {
         1 => put_identification(s, values),
@@ -82,7 +82,7 @@ fn put_record(section: u8, s: &[u8], values: &mut [i64])
 // Section 1 ends with the real year, which no octets hold.
 fn put_identification(s: &[u8], values: &mut [i64])
     requires { do ⌜ 64 ≤ (← ⟦values.len()⟧) ⌝ }
-    ensures { λ _. ⌜ Stands (outcome₁ (now (s .entry))) (now (values .entry)) (now (values .exit)) ⌝ }
+    ensures { λ _. ⌜ PutsRecord (outcome₁ (now (s .entry))) (now (values .entry)) (now (values .exit)) ⌝ }
 {
     let year = octets::u16_at(s, 13);
     if s.len() == 21 {
@@ -108,7 +108,7 @@ fn put_identification(s: &[u8], values: &mut [i64])
 
 fn put_grid(s: &[u8], values: &mut [i64])
     requires { do ⌜ 64 ≤ (← ⟦values.len()⟧) ⌝ }
-    ensures { λ _. ⌜ Stands (outcome₃ (now (s .entry))) (now (values .entry)) (now (values .exit)) ⌝ }
+    ensures { λ _. ⌜ PutsRecord (outcome₃ (now (s .entry))) (now (values .entry)) (now (values .exit)) ⌝ }
 {
     match octets::u16_at(s, 13) {
         0 => put(s, b"41141121QTQTQTTT4Tdd1ddTT1", values),
@@ -120,7 +120,7 @@ fn put_grid(s: &[u8], values: &mut [i64])
 
 fn put_product(s: &[u8], values: &mut [i64])
     requires { do ⌜ 64 ≤ (← ⟦values.len()⟧) ⌝ }
-    ensures { λ _. ⌜ Stands (outcome₄ (now (s .entry))) (now (values .entry)) (now (values .exit)) ⌝ }
+    ensures { λ _. ⌜ PutsRecord (outcome₄ (now (s .entry))) (now (values .entry)) (now (values .exit)) ⌝ }
 {
     match octets::u16_at(s, 8) {
         0 => put(s, b"412211111R11d1AD1AD", values),

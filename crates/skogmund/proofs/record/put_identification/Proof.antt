@@ -17,14 +17,14 @@ use Rattle.identification.specs.Section1.{realYearAt, outcome₁}
 use Rattle.identification.specs.declared.Template.{Template}
 use Rattle.identification.specs.declared.Template.the-variants.{None as noTemplate, Calendar, Offset, CalendarAndOffset}
 use Rattle.skogmund.specs.Letters.{numbersBy}
-use Rattle.skogmund.specs.Records.{counted, Stands}
+use Rattle.skogmund.specs.Records.{counted, PutsRecord}
 use Rattle.skogmund.proofs.Words.{widened}
 use Rattle.skogmund.proofs.Templates.{word₁, numbered₁, template₁, row₁, last₁}
 use Rattle.skogmund.proofs.record.put_identification.Statement.{statement}
 use Rattle.skogmund.proofs.record.put_identification.Tie as tie
 
 -- an arm's row, with the real year that it was handed
-with-year : (s : List ℕ) (t : Template) (row row′ : List ℤ) {year : ℤ} → template₁ s ≡ t → year ≡ realYearAt t s → row′ ≡ counted (numbersBy (word₁ t) 1 s ++ (year ∷ [])) row → Stands (outcome₁ s) row row′
+with-year : (s : List ℕ) (t : Template) (row row′ : List ℤ) {year : ℤ} → template₁ s ≡ t → year ≡ realYearAt t s → row′ ≡ counted (numbersBy (word₁ t) 1 s ++ (year ∷ [])) row → PutsRecord (outcome₁ s) row row′
 with-year s t row row′ by y e = row₁ s t row row′ by (e ∙ ap (λ (z : ℤ). counted (numbersBy (word₁ t) 1 s ++ (z ∷ [])) row) y)
 
 -- the template of a section that is not 21 octets long

@@ -14,13 +14,13 @@ use Rattle.product.specs.declared.Template.the-variants.{NotListed, Listed}
 use Rattle.product.specs.declared.PartKind.the-variants.{None as noPart, Ensemble, Cluster, Probability, Aerosol}
 use Rattle.octets.specs.Octets.{beAt}
 use Rattle.skogmund.specs.Letters.{numbersBy}
-use Rattle.skogmund.specs.Records.{counted, Stands}
+use Rattle.skogmund.specs.Records.{counted, PutsRecord}
 use Rattle.skogmund.proofs.Templates.{word₄, row₄}
 use Rattle.skogmund.proofs.record.put_product.Statement.{statement}
 use Rattle.skogmund.proofs.record.put_product.Tie as tie
 
 -- the last word is 4.46's, and of a number that is not listed nothing is asked
-aerosol : (t : Bool) (s : List ℕ) (row row′ : List ℤ) → templateOf (beAt s 8 2) ≡ cond t (Listed Aerosol true) NotListed → row′ ≡ counted (numbersBy (word₄ NotListed) 1 s) row → Stands (outcome₄ s) row row′
+aerosol : (t : Bool) (s : List ℕ) (row row′ : List ℤ) → templateOf (beAt s 8 2) ≡ cond t (Listed Aerosol true) NotListed → row′ ≡ counted (numbersBy (word₄ NotListed) 1 s) row → PutsRecord (outcome₄ s) row row′
 aerosol true s row row′ by e = row₄ s (Listed Aerosol true) row row′ by e
 aerosol false s row row′ by e = row₄ s NotListed row row′ by e
 

@@ -11,17 +11,17 @@ use lib.Dec.{eqb}
 use lib.IntN.{ℤ}
 use Rattle.layout.specs.Fields.{Value}
 use Rattle.layout.specs.Outcomes.{Outcome, refused, read}
-use Rattle.skogmund.specs.Records.{sectionOutcome, outcome₇alone, Stands}
+use Rattle.skogmund.specs.Records.{sectionOutcome, outcome₇alone, PutsRecord}
 use Rattle.skogmund.proofs.Templates.{row₅, row₇}
 use Rattle.skogmund.proofs.record.put_record.Statement.{statement}
 use Rattle.skogmund.proofs.record.put_record.Tie as tie
 
 -- an arm's row is for its section
-arm : (s : List ℕ) (row row′ : List ℤ) {section key : ℕ} → section ≡ key → Stands (sectionOutcome key s) row row′ → Stands (sectionOutcome section s) row row′
+arm : (s : List ℕ) (row row′ : List ℤ) {section key : ℕ} → section ≡ key → PutsRecord (sectionOutcome key s) row row′ → PutsRecord (sectionOutcome section s) row row′
 arm s row row′ e p vs accepted = p vs (sym (ap (λ (k : ℕ). sectionOutcome k s) e) ∙ accepted)
 
 -- section 7, and of another number nothing is asked
-last : (s : List ℕ) (row row′ : List ℤ) (section : ℕ) (t : Bool) → Stands (outcome₇alone s) row row′ → Stands (cond t (outcome₇alone s) (refused 4 section 0)) row row′
+last : (s : List ℕ) (row row′ : List ℤ) (section : ℕ) (t : Bool) → PutsRecord (outcome₇alone s) row row′ → PutsRecord (cond t (outcome₇alone s) (refused 4 section 0)) row row′
 last s row row′ section true p = p
 last s row row′ section false p = λ vs accepted. let z : _≡_ {A = ℕ} 0 1 = cc in absurd (omega arith)
 

@@ -22,7 +22,7 @@ use Rattle.refusals.specs.Refusals.{table₁, table₃, table₄, table₅, tab
 use Rattle.refusals.proofs.RefusalNumbers.{refuses₁, refuses₃, refuses₄, refuses₅, head-refuses}
 use Rattle.refusals.proofs.OneNumber.{Proper, proper}
 use Rattle.skogmund.specs.Entries.{codeOf, coded}
-use Rattle.skogmund.specs.Records.{sectionOutcome, outcome₇alone, refusalOf, intoRow, rowAfter, counted, numbersIn}
+use Rattle.skogmund.specs.Records.{sectionOutcome, outcome₇alone, refusalOf, intoRow, valuesAfter, counted, numbersIn}
 use Rattle.skogmund.proofs.record.skogmund_read.Statement.{statement}
 use Rattle.skogmund.proofs.record.skogmund_read.Tie as tie
 
@@ -50,8 +50,8 @@ as-code (refused number section place) = refl
 as-code (read vs) = refl
 
 -- a number that is not 0 is a refusal's, and leaves the row
-refusing : (o : Outcome) (row : List ℤ) → (coded o ≡ 0 → ⊥) → (coded o ≡ coded (intoRow o row)) × (row ≡ rowAfter (intoRow o row) row)
-unfolding intoRow rowAfter
+refusing : (o : Outcome) (row : List ℤ) → (coded o ≡ 0 → ⊥) → (coded o ≡ coded (intoRow o row)) × (row ≡ valuesAfter (intoRow o row) row)
+unfolding intoRow valuesAfter
 refusing (refused number section place) row h = (refl, refl)
 refusing (read vs) row h = absurd (h refl)
 
@@ -60,12 +60,12 @@ accepting : (o : Outcome) → Proper o → coded o ≡ 0 → (vs : List Value) �
 accepting (refused number section place) p e = absurd (p .0 (omega (arith, e)))
 accepting (read vs) p e = (vs, refl)
 
-no-room : (o : Outcome) (row : List ℤ) (vs : List Value) → o ≡ read vs → length row < 64 → (19791209299968 ≡ coded (intoRow o row)) × (row ≡ rowAfter (intoRow o row) row)
-unfolding intoRow rowAfter
+no-room : (o : Outcome) (row : List ℤ) (vs : List Value) → o ≡ read vs → length row < 64 → (19791209299968 ≡ coded (intoRow o row)) × (row ≡ valuesAfter (intoRow o row) row)
+unfolding intoRow valuesAfter
 no-room o row vs e h = rw (e, lt-ltb _ _ h) (refl, refl)
 
-into : (o : Outcome) (row row′ : List ℤ) (vs : List Value) → o ≡ read vs → 64 ≤ length row → row′ ≡ counted (numbersIn vs) row → (0 ≡ coded (intoRow o row)) × (row′ ≡ rowAfter (intoRow o row) row)
-unfolding intoRow rowAfter
+into : (o : Outcome) (row row′ : List ℤ) (vs : List Value) → o ≡ read vs → 64 ≤ length row → row′ ≡ counted (numbersIn vs) row → (0 ≡ coded (intoRow o row)) × (row′ ≡ valuesAfter (intoRow o row) row)
+unfolding intoRow valuesAfter
 into o row row′ vs e h p = rw (e, le-ltb _ _ h) (refl, p)
 
 code-requires : tie.Need-code-requires
