@@ -1,5 +1,6 @@
 //! Links `libskogmund.a` from the directory in SKOGMUND_LIB, or else from `target/staticlib` of the repository. Without a
-//! library the cfg `no_library` leaves out what needs it, so that the reference's own tests still run.
+//! library the cfg `no_library` leaves out what needs it, so that the reference's own tests still run. So it is on other processors than
+//! x86-64, for which `rt staticlib` compiles, unless a library is named.
 use std::env;
 use std::path::PathBuf;
 
@@ -21,14 +22,16 @@ fn main() {
     println!("cargo::rustc-check-cfg=cfg(no_library)");
     println!("cargo::rerun-if-env-changed=SKOGMUND_LIB");
     println!("cargo::rerun-if-changed={}", archive.display());
-    if archive.is_file() {
+    let named = env::var_os("SKOGMUND_LIB").is_some();
+    let fits = named || env::var("CARGO_CFG_TARGET_ARCH").as_deref() == Ok("x86_64");
+    if archive.is_file() && fits {
         println!("cargo::rustc-link-search=native={}", directory.display());
         println!("cargo::rustc-link-lib=static=skogmund");
-    } else if env::var_os("SKOGMUND_LIB").is_some() {
+    } else if named {
         // Whoever names a library wants it tested.
         println!("cargo::error=no {ARCHIVE} in the directory of SKOGMUND_LIB");
     } else {
-        println!("cargo::warning=no {ARCHIVE} found: only the reference is tested");
+        println!("cargo::warning=no {ARCHIVE} for this processor: only the reference is tested");
         println!("cargo::rustc-cfg=no_library");
     }
 }
