@@ -5,6 +5,7 @@ ghost use mathlib.Core.List.{map};
 ghost use lib.Dec.{ltb};
 ghost use lib.IntN.{pos};
 ghost use lib.Signed.{ltZ};
+ghost use Rattle.octets.specs.Octets.{part};
 ghost use Rattle.card.specs.Order.{lex};
 ghost use Rattle.card.specs.Key.{lessCard};
 
@@ -18,6 +19,23 @@ pub struct Card {
     pub second: u8,
     pub issue: u32,
     pub product: [u8; 27],
+}
+
+// The 27 octets of a product, from octet `at` on: in section 4 they start at octet 8.
+pub fn product_at(s: &[u8], at: usize) -> [u8; 27]
+    ensures { λ r. ⌜ r ≡ part (now (s .entry)) at 27 ⌝ }
+{
+    let mut product = [0u8; 27];
+    // Past the end all is 0; before it the last octet's number fits, since a slice has fewer than 2^63 octets.
+    if s.len() < at {
+        return product;
+    }
+    let mut i: usize = 0;
+    while i < 27 {
+        product[i] = octets::u8_at(s, at + i);
+        i += 1;
+    }
+    product
 }
 
 // Whether a is less than b. From the last number of the order to the first, so that the first at which they differ decides.

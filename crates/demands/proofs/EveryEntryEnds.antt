@@ -95,14 +95,22 @@ use Rattle.field.proofs.refusal_of.Statement as field-refusal-of
 use Rattle.field.proofs.refusal_of.Met as field-refusal-of-met
 use Rattle.card.proofs.less.Statement as card-less
 use Rattle.card.proofs.less.Met as card-less-met
+use Rattle.card.proofs.product_at.Statement as card-product-at
+use Rattle.card.proofs.product_at.Met as card-product-at-met
 use Rattle.shelf.proofs.Shelf.empty.Statement as shelf-empty
 use Rattle.shelf.proofs.Shelf.empty.Met as shelf-empty-met
+use Rattle.shelf.proofs.blank_slot.Statement as shelf-blank-slot
+use Rattle.shelf.proofs.blank_slot.Met as shelf-blank-slot-met
 use Rattle.shelf.proofs.slot_of.Statement as shelf-slot-of
 use Rattle.shelf.proofs.slot_of.Met as shelf-slot-of-met
 use Rattle.shelf.proofs.put.Statement as shelf-put
 use Rattle.shelf.proofs.put.Met as shelf-put-met
 use Rattle.shelf.proofs.join.Statement as shelf-join
 use Rattle.shelf.proofs.join.Met as shelf-join-met
+use Rattle.shelf_octets.proofs.read.Statement as shelf-octets-read
+use Rattle.shelf_octets.proofs.read.Met as shelf-octets-read-met
+use Rattle.shelf_octets.proofs.write.Statement as shelf-octets-write
+use Rattle.shelf_octets.proofs.write.Met as shelf-octets-write-met
 use Rattle.filing.proofs.file_by_value.Statement as filing-file-by-value
 use Rattle.filing.proofs.file_by_value.Met as filing-file-by-value-met
 use Rattle.filing.proofs.file.Statement as filing-file
@@ -317,10 +325,16 @@ field-refusal-of-ends = field-refusal-of-met.met
 pub card-less-ends : {M : Type 1} → card-less.statement M
 card-less-ends = card-less-met.met
 
+pub card-product-at-ends : {M : Type 1} → card-product-at.statement M
+card-product-at-ends = card-product-at-met.met
+
 -- ---- shelf
 
 pub shelf-empty-ends : {M : Type 1} → shelf-empty.statement M
 shelf-empty-ends = shelf-empty-met.met
+
+pub shelf-blank-slot-ends : {M : Type 1} → shelf-blank-slot.statement M
+shelf-blank-slot-ends = shelf-blank-slot-met.met
 
 pub shelf-slot-of-ends : {M : Type 1} → shelf-slot-of.statement M
 shelf-slot-of-ends = shelf-slot-of-met.met
@@ -330,6 +344,14 @@ shelf-put-ends = shelf-put-met.met
 
 pub shelf-join-ends : {M : Type 1} → shelf-join.statement M
 shelf-join-ends = shelf-join-met.met
+
+-- ---- shelf_octets
+
+pub shelf-octets-read-ends : {M : Type 1} → shelf-octets-read.statement M
+shelf-octets-read-ends = shelf-octets-read-met.met
+
+pub shelf-octets-write-ends : {M : Type 1} → shelf-octets-write.statement M
+shelf-octets-write-ends = shelf-octets-write-met.met
 
 -- ---- filing
 

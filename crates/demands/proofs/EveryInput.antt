@@ -57,10 +57,14 @@ use Rattle.packing.proofs.data_refusal_of.Reads as packing-data-refusal-of
 use Rattle.field.proofs.read.Reads as field-read
 use Rattle.field.proofs.refusal_of.Reads as field-refusal-of
 use Rattle.card.proofs.less.Reads as card-less
+use Rattle.card.proofs.product_at.Reads as card-product-at
 use Rattle.shelf.proofs.Shelf.empty.Reads as shelf-empty
+use Rattle.shelf.proofs.blank_slot.Reads as shelf-blank-slot
 use Rattle.shelf.proofs.slot_of.Reads as shelf-slot-of
 use Rattle.shelf.proofs.put.Reads as shelf-put
 use Rattle.shelf.proofs.join.Reads as shelf-join
+use Rattle.shelf_octets.proofs.read.Reads as shelf-octets-read
+use Rattle.shelf_octets.proofs.write.Reads as shelf-octets-write
 use Rattle.filing.proofs.file_by_value.Reads as filing-file-by-value
 use Rattle.filing.proofs.file as filing-file
 use Rattle.filing.proofs.bench_reload.Reads as filing-bench-reload
@@ -248,10 +252,16 @@ field-refusal-of-takes lent given = tt
 pub card-less-takes : TakesEvery card-less.Asked
 card-less-takes lent given = tt
 
+pub card-product-at-takes : TakesEvery card-product-at.Asked
+card-product-at-takes lent given = tt
+
 -- ---- shelf
 
 pub shelf-empty-takes : TakesEvery shelf-empty.Asked
 shelf-empty-takes lent given = tt
+
+pub shelf-blank-slot-takes : TakesEvery shelf-blank-slot.Asked
+shelf-blank-slot-takes lent given = tt
 
 pub shelf-slot-of-takes : TakesEvery shelf-slot-of.Asked
 shelf-slot-of-takes lent given = tt
@@ -261,6 +271,14 @@ shelf-put-takes lent given = tt
 
 pub shelf-join-takes : TakesEvery shelf-join.Asked
 shelf-join-takes lent given = tt
+
+-- ---- shelf_octets
+
+pub shelf-octets-read-takes : TakesEvery shelf-octets-read.Asked
+shelf-octets-read-takes lent given = tt
+
+pub shelf-octets-write-takes : TakesEvery shelf-octets-write.Asked
+shelf-octets-write-takes lent given = tt
 
 -- ---- filing
 

@@ -1,6 +1,5 @@
 // Filing: a field is read, and its card put to a slot of the shelf.
 ghost use mathlib.Core.Path.{_≡_};
-ghost use Rattle.octets.specs.Octets.{part};
 ghost use Rattle.identification.specs.Section1.{valuesIn};
 ghost use Rattle.filing.specs.Filing.{issueOf, cardOf, foreignCalendar, afterPut, filedBy, filedOf, refusedFiling};
 use card::Card;
@@ -149,7 +148,7 @@ fn foreign_calendar(x: Identification) -> bool
 fn card_of(x: Identification, issue: u32, section4: &[u8]) -> Card
     ensures { λ r. ⌜ r ≡ cardOf (valuesIn x) issue (now (section4 .entry)) ⌝ }
 {
-    let product = product_octets(section4);
+    let product = card::product_at(section4, 8);
     Card {
         year: x.real_year,
         month: x.time.month,
@@ -160,19 +159,6 @@ fn card_of(x: Identification, issue: u32, section4: &[u8]) -> Card
         issue,
         product,
     }
-}
-
-// Octets 8 to 34 of section 4.
-fn product_octets(section4: &[u8]) -> [u8; 27]
-    ensures { λ r. ⌜ r ≡ part (now (section4 .entry)) 8 27 ⌝ }
-{
-    let mut product = [0u8; 27];
-    let mut i: usize = 0;
-    while i < 27 {
-        product[i] = octets::u8_at(section4, 8 + i);
-        i += 1;
-    }
-    product
 }
 
 fn after_put(done: PutDone) -> Filed

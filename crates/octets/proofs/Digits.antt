@@ -1,7 +1,7 @@
 -- The octets of a number, and the number of octets: each is the other's inverse.
 -- Assumes nothing.
 use mathlib.Core.Path.{_≡_, refl, ap, _∙_}
-use mathlib.Core.List.{List}
+use mathlib.Core.List.{List, _++_}
 use Prim.Native.Nat.{ℕ, zero, suc, _+_, _-_, _*_, _^_, _<_, _%_}
 use native.Mathlib.Nat.{mod-lt, div-add-mod', div-lt-iff-lt-mul, pow-succ'}
 use native.Mathlib.Omega.{arith}
@@ -9,7 +9,7 @@ use lib.ListN.{length}
 use lib.Dec.{lit<}
 use lib.Pow.{pow-add}
 use Rattle.octets.specs.Octets.{part, be, beAt, digits, topBit, allOnes, AllOctets}
-use Rattle.octets.proofs.Laws.{be-below, be-same, part-length, part-octets}
+use Rattle.octets.proofs.Laws.{be-below, be-same, part-length, part-octets, part-front, part-behind}
 
 pub power-pos : (width : ℕ) → 0 < 256 ^ width
 power-pos zero = lit< tt
@@ -34,6 +34,13 @@ be-digits zero x h = omega arith
 be-digits (suc width) x h =
     rw (digits-length width (x % 256 ^ width), be-digits width (x % 256 ^ width) (mod-lt x (power-pos width)))
     (div-add-mod' x (256 ^ width))
+
+-- wherever they are written
+pub beAt-digits : (xs ys : List ℕ) (width x : ℕ) → x < 256 ^ width → beAt (xs ++ (digits width x ++ ys)) (1 + length xs) width ≡ x
+unfolding beAt
+beAt-digits xs ys width x h =
+    let here : part (digits width x ++ ys) 1 width ≡ digits width x = rw (digits-length width x) at (part-front (digits width x) ys) in
+    ap be (part-behind xs (digits width x ++ ys) 1 width (omega arith) ∙ here) ∙ be-digits width x h
 
 -- the octets of what octets stand for
 pub digits-be : (xs : List ℕ) → AllOctets xs → digits (length xs) (be xs) ≡ xs

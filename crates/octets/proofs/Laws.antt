@@ -6,8 +6,8 @@ use Prim.Native.Nat.{ℕ, zero, suc, _+_, _*_, _^_, _≤_, _<_}
 use native.Mathlib.Nat.{zero-mul, zero-add, add-mul, mul-assoc, pow-succ', mul-le-mul-right, mul-le-mul-left, le-of-lt, le-antisymm, lt-of-le-of-lt, mul-lt-mul-of-pos-right, suc-add, add-suc, add-zero}
 use native.Mathlib.Omega.{arith}
 use native.Mathlib.Numerals.{add-one}
-use lib.ListN.{length, take, drop, getD, length-append, List·getD-eq-default}
-use lib.Seq.{getD-drop, drop-cons}
+use lib.ListN.{length, take, drop, getD, replicate, length-append, List·getD-eq-default}
+use lib.Seq.{getD-drop, drop-cons, take-append-seam, drop-append-seam}
 use lib.Pow.{pow-add, pow-pos}
 use lib.Dec.{lit<, ltb}
 use borrow.Author.Tests.{ltb-true, ltb-false}
@@ -66,6 +66,23 @@ from-next s end (suc width) h =
 pub part-take : (s : List ℕ) (end width : ℕ) → end + width ≤ length s → part s (end + 1) width ≡ take width (drop end s)
 part-take s end width h = rw add-one (from-next s end width h)
 
+-- of two runs of octets the first
+pub part-front : (xs ys : List ℕ) → part (xs ++ ys) 1 (length xs) ≡ xs
+part-front xs ys = part-take (xs ++ ys) 0 (length xs) (simp length-append (omega arith)) ∙ take-append-seam xs ys
+
+-- and what stands in the second
+pub part-behind : (xs ys : List ℕ) (at width : ℕ) → 1 ≤ at → part (xs ++ ys) (at + length xs) width ≡ part ys at width
+part-behind xs ys at width h =
+    sym (part-drop (xs ++ ys) (length xs) at width h) ∙ ap (λ (s : List ℕ). part s at width) (drop-append-seam xs ys)
+
+-- past the end there are zeros
+pub part-past : (s : List ℕ) (at width : ℕ) → length s < at → part s at width ≡ replicate width 0
+unfolding part
+part-past s at zero h = refl
+part-past s at (suc width) h =
+    let none : octet s at ≡ 0 = List·getD-eq-default (0 ∷ s) 0 {n = at} (omega arith) in
+    λ i. none i ∷ part-past s (suc at) width (omega arith) i
+
 pub octet-below : (s : List ℕ) (at : ℕ) → AllOctets s → octet s at < 256
 octet-below s zero o = lit< tt
 octet-below s (suc at) o = o at
@@ -75,6 +92,15 @@ unfolding part
 part-octets s at zero o i = lit< tt
 part-octets s at (suc width) o zero = octet-below s at o
 part-octets s at (suc width) o (suc i) = part-octets s (suc at) width o i
+
+pub drop-octets : (k : ℕ) (s : List ℕ) → AllOctets s → AllOctets (drop k s)
+drop-octets k s o i = rw getD-drop (o (k + i))
+
+pub take-octets : (k : ℕ) (s : List ℕ) → AllOctets s → AllOctets (take k s)
+take-octets zero s o i = lit< tt
+take-octets (suc k) [] o i = lit< tt
+take-octets (suc k) (x ∷ s) o zero = o 0
+take-octets (suc k) (x ∷ s) o (suc i) = take-octets k s (λ j. o (suc j)) i
 
 -- ---- their number
 

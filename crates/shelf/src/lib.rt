@@ -107,7 +107,8 @@ fn greater_slot(a: Slot, b: Slot) -> Slot
     if less_slot(a, b) { b } else { a }
 }
 
-fn blank_slot() -> Slot
+// The slot that holds nothing.
+pub fn blank_slot() -> Slot
     ensures { λ r. ⌜ r ≡ blank ⌝ }
 {
     Slot {

@@ -18,7 +18,7 @@ returns c =
       minute = a .x .time .minute;
       second = a .x .time .second;
       issue = a .issue;
-      product = c .before .product-octets .ensures i;
+      product = c .before .product-at .ensures i;
     }
 
 pub card-of-spec : {M : Type 1} → statement M
