@@ -1,0 +1,222 @@
+-- Shelves as octets: each shelf that the entries make of octets is read back from its own octets, so that demand 3 holds of octets that are
+-- stored or sent between two calls. Joining octets commutes, associates and is idempotent.
+-- Assumes nothing.
+use Prim.Native.Nat.{ℕ, zero, suc, _-_, _^_, _<_, _≤_}
+use native.Mathlib.Omega.{arith}
+use mathlib.Core.Path.{_≡_, refl, subst⁻¹}
+use mathlib.Core.Bool.{Bool, true, false, cond}
+use mathlib.Core.List.{List, [], _∷_}
+use lib.Dec.{eqb, ltb}
+use lib.IntN.{ℤ, pos, negsuc, natAbs, _*ℤ_}
+use lib.ListN.{length, drop}
+use lib.Signed.{mag}
+use Rattle.octets.specs.Octets.{beAt, signOf, realYear, AllOctets}
+use Rattle.octets.proofs.Laws.{beAt-below, part-length, take-octets, drop-octets}
+use Rattle.octets.proofs.Signs.{abs-add, abs-mul, sign-abs}
+use Rattle.layout.specs.Fields.{Value}
+use Rattle.layout.specs.Outcomes.{Outcome, refused, read}
+use Rattle.identification.specs.Section1.{outcome₁, realYearAt}
+use Rattle.identification.specs.declared.Template.{Template}
+use Rattle.identification.specs.declared.Template.the-variants.{None as noTemplate, Calendar, Offset, CalendarAndOffset}
+use Rattle.field.specs.Field.{FieldOutcome, refusedField, readField, onward, packedOutcome, fieldOutcome}
+use Rattle.shelf.specs.declared.Shelf.{Shelf}
+use Rattle.shelf.specs.Shelves.{slotAt, joinShelf}
+use Rattle.shelf.specs.History.{Keeps}
+use Rattle.shelf_octets.specs.ShelfOctets.{shelfIn, octetsOf, joinOctets, Held, Stored}
+use Rattle.shelf_octets.proofs.Laws as laws
+use Rattle.filing.specs.declared.Issue.{Issue}
+use Rattle.filing.specs.declared.Issue.the-variants.{NotNamed, Named}
+use Rattle.filing.specs.Filing.{Filing, refusedFiling, accepted, issueOf, cardOf, foreignCalendar, ofField, filingOf, filedBy, filedOf}
+use Rattle.filing.proofs.CardOctets.{card-octets}
+use Rattle.queue.specs.declared.Head.{Head}
+use Rattle.queue.specs.declared.Progress.{Progress}
+use Rattle.queue.specs.declared.Body.{Body}
+use Rattle.queue.specs.declared.Body.the-variants.{Five, NotFive}
+use Rattle.queue.specs.declared.Record.{Record}
+use Rattle.queue.specs.declared.Record.the-variants.{Whole, Broken}
+use Rattle.queue.specs.Records.{recordOf, issueFrom}
+use Rattle.queue.specs.Bodies.{bodyOf}
+use Rattle.queue.specs.Queues.{Sent, between, recordIn, bodyFiling, recordFiling, recordFiled, ahead, atEnd, cutIn, cutOf, oneMore, recordsFiled, fromStart, queueRefusal, refusedQueue, acceptedQueue, queueFiled}
+use Rattle.queue.specs.History.{History, start, file, queue, join, shelfOf, acceptedAt}
+use Rattle.queue.proofs.Histories.{kept}
+use Rattle.queue.proofs.Taken.{taken}
+use Rattle.queue.proofs.Cuts.{stands}
+
+-- ---- the card of a field that is accepted
+
+mag-abs : (z : ℤ) → mag z ≤ natAbs z
+mag-abs (pos n) = omega arith
+mag-abs (negsuc n) = omega arith
+
+real-year-small : (year offset : ℕ) → year < 256 ^ 2 → offset < 256 ^ 2 → mag (realYear (signOf 2 year) (signOf 2 offset)) < 2 ^ 31
+real-year-small year offset y o =
+    let a = signOf 2 year in
+    let b = signOf 2 offset in
+    omega (arith, mag-abs (realYear a b), abs-add a (pos 10000 *ℤ b), abs-mul 10000 b, sign-abs 2 year (omega arith), sign-abs 2 offset (omega arith))
+
+year-small : (template : Template) (s : List ℕ) → AllOctets s → mag (realYearAt template s) < 2 ^ 31
+unfolding realYearAt
+year-small noTemplate s a = omega (arith, beAt-below s 13 2 a)
+year-small Calendar s a = omega (arith, beAt-below s 13 2 a)
+year-small Offset s a = real-year-small (beAt s 13 2) (beAt s 24 2) (beAt-below s 13 2 a) (beAt-below s 24 2 a)
+year-small CalendarAndOffset s a = real-year-small (beAt s 13 2) (beAt s 25 2) (beAt-below s 13 2 a) (beAt-below s 25 2 a)
+
+card-held : (s1 : List ℕ) (one : List Value) (issue : ℕ) (s4 : List ℕ) → AllOctets s1 → issue < 2 ^ 32 → outcome₁ s1 ≡ read one → Held (cardOf one issue s4)
+card-held s1 one issue s4 a h e =
+    let c = card-octets s1 one issue s4 e in
+    subst⁻¹ Held (c .2) (record { year = year-small (c .0) s1 a; issue = h; product = part-length s4 8 27 })
+
+-- the first values of a field that is read are section 1's
+abbrev FirstIs : List ℕ → FieldOutcome → Type 0
+FirstIs s1 (refusedField number section place) = Unit {0}
+FirstIs s1 (readField one three four five) = outcome₁ s1 ≡ read one
+
+onward-first : (s1 : List ℕ) (o : Outcome) (next : List Value → FieldOutcome) → ((vs : List Value) → o ≡ read vs → FirstIs s1 (next vs)) → FirstIs s1 (onward o next)
+unfolding onward
+onward-first s1 (refused number section place) next f = tt
+onward-first s1 (read vs) next f = f vs refl
+
+field-first : (s1 s3 s4 s5 s7 : List ℕ) → FirstIs s1 (fieldOutcome s1 s3 s4 s5 s7)
+unfolding fieldOutcome packedOutcome
+field-first s1 s3 s4 s5 s7 =
+    onward-first s1 _ _ (λ one e. onward-first s1 _ _ (λ three _. onward-first s1 _ _ (λ four _. onward-first s1 _ _ (λ five _. onward-first s1 _ _ (λ seven _. e)))))
+
+-- a card that is accepted is one that a machine has
+abbrev HeldIf : Filing → Type 0
+HeldIf (refusedFiling number section place) = Unit {0}
+HeldIf (accepted card) = Held card
+
+field-held : (o : FieldOutcome) (s1 : List ℕ) (issue : ℕ) (s4 : List ℕ) → AllOctets s1 → issue < 2 ^ 32 → FirstIs s1 o → HeldIf (ofField o issue s4)
+unfolding ofField
+field-held (refusedField number section place) s1 issue s4 a h f = tt
+field-held (readField one three four five) s1 issue s4 a h f = by-calendar (foreignCalendar one)
+  where
+    by-calendar : (t : Bool) → HeldIf (cond t (refusedFiling 17 1 0) (accepted (cardOf one issue s4)))
+    by-calendar true = tt
+    by-calendar false = card-held s1 one issue s4 a h f
+
+filing-held : (slot : ℕ) (issue : Issue) (s1 s3 s4 s5 s7 : List ℕ) → AllOctets s1 → issueOf issue < 2 ^ 32 → HeldIf (filingOf slot issue s1 s3 s4 s5 s7)
+unfolding filingOf
+filing-held slot issue s1 s3 s4 s5 s7 a h = by-slot (ltb 63 slot)
+  where
+    by-slot : (t : Bool) → HeldIf (cond t (refusedFiling 16 0 0) (ofField (fieldOutcome s1 s3 s4 s5 s7) (issueOf issue) s4))
+    by-slot true = tt
+    by-slot false = field-held (fieldOutcome s1 s3 s4 s5 s7) s1 (issueOf issue) s4 a h (field-first s1 s3 s4 s5 s7)
+
+filed-stored : (s : Shelf) (slot : ℕ) (f : Filing) → Stored s → HeldIf f → Stored (filedBy s slot f .shelf)
+unfolding filedBy
+filed-stored s slot (refusedFiling number section place) t h = t
+filed-stored s slot (accepted card) t h = laws.stored-put s slot card t h
+
+-- ---- the shelves that filing a field and filing a queue make
+
+pub stored-filed : (s : Shelf) (slot : ℕ) (issue : Issue) (s1 s3 s4 s5 s7 : List ℕ) → Stored s → AllOctets s1 → issueOf issue < 2 ^ 32
+    → Stored (filedOf s slot issue s1 s3 s4 s5 s7 .shelf)
+unfolding filedOf
+stored-filed s slot issue s1 s3 s4 s5 s7 t a h = filed-stored s slot (filingOf slot issue s1 s3 s4 s5 s7) t (filing-held slot issue s1 s3 s4 s5 s7 a h)
+
+-- what a queue of octets says in a record
+record Told (r : Sent) : Type 0 where
+  issue : issueOf (r .issue) < 2 ^ 32
+  body : AllOctets (r .body)
+
+abbrev AllTold : List Sent → Type 0
+AllTold [] = Unit {0}
+AllTold (r ∷ rs) = Told r × AllTold rs
+
+issue-small : (stored : ℕ) → stored ≤ 4294967296 → issueOf (issueFrom stored) < 2 ^ 32
+issue-small stored h = by-zero (eqb stored 0)
+  where
+    by-zero : (t : Bool) → issueOf (cond t NotNamed (Named (stored - 1))) < 2 ^ 32
+    by-zero true = omega arith
+    by-zero false = omega arith
+
+record-told : (s : List ℕ) (h : Head) → AllOctets s → recordOf s ≡ Whole h → Told (recordIn s h)
+record-told s h a e =
+    let x = stands s h e in
+    record {
+      issue = subst⁻¹ (λ (i : Issue). issueOf i < 2 ^ 32) (x .named) (issue-small (x .stored) (taken _ _ _ (x .second) .small));
+      body = take-octets (h .end - h .start) (drop (h .start) s) (drop-octets (h .start) s a);
+    }
+
+cut-told : (most : ℕ) (s : List ℕ) → AllOctets s → AllTold (cutIn most s .records)
+unfolding cutIn
+cut-told zero s a = tt
+cut-told (suc most) s a = by-end (cut-told most) (atEnd s)
+  where
+    by-record : ((rest : List ℕ) → AllOctets rest → AllTold (cutIn most rest .records)) → (r : Record) → recordOf s ≡ r → AllTold (ahead s r (λ rest. cutIn most rest) .records)
+    by-record others Broken e = tt
+    by-record others (Whole h) e = (record-told s h a e, others (drop (h .end) s) (drop-octets (h .end) s a))
+
+    by-end : ((rest : List ℕ) → AllOctets rest → AllTold (cutIn most rest .records)) → (t : Bool) → AllTold (cond t (record { records = []; whole = true }) (ahead s (recordOf s) (λ rest. cutIn most rest)) .records)
+    by-end others true = tt
+    by-end others false = by-record others (recordOf s) refl
+
+record-held : (r : Sent) → Told r → HeldIf (recordFiling r)
+unfolding recordFiling bodyFiling
+record-held r t = by-body (bodyOf (r .body))
+  where
+    by-body : (b : Body) → HeldIf (bodyFiling (r .slot) (r .issue) (r .body) b)
+    by-body NotFive = tt
+    by-body (Five ends) = filing-held (r .slot) (r .issue) (between (r .body) 0 (ends .one)) _ _ _ _ (take-octets (ends .one - 0) (r .body) (t .body)) (t .issue)
+
+records-stored : (rs : List Sent) (p : Progress) → AllTold rs → Stored (p .shelf) → Stored (recordsFiled p rs .shelf)
+unfolding recordsFiled recordFiled
+records-stored [] p t s = s
+records-stored (r ∷ rs) p t s =
+    records-stored rs (oneMore (p .counts) (recordFiled (p .shelf) r)) (t .1)
+    (filed-stored (p .shelf) (r .slot) (recordFiling r) s (record-held r (t .0)))
+
+pub stored-queue : (s : Shelf) (q : List ℕ) → Stored s → AllOctets q → Stored (queueFiled s q .shelf)
+unfolding queueFiled cutOf
+stored-queue s q t a = by-refusal (eqb (queueRefusal q) 0)
+  where
+    by-refusal : (b : Bool) → Stored (cond b (acceptedQueue (recordsFiled (fromStart s) (cutOf q .records))) (refusedQueue s (queueRefusal q)) .shelf)
+    by-refusal true = records-stored (cutOf q .records) (fromStart s) (cut-told (length q) q a) t
+    by-refusal false = t
+
+-- ---- each is read back from its octets
+
+pub read-after-filing : (o : List ℕ) (slot : ℕ) (issue : Issue) (s1 s3 s4 s5 s7 : List ℕ) → AllOctets o → AllOctets s1 → issueOf issue < 2 ^ 32
+    → shelfIn (octetsOf (filedOf (shelfIn o) slot issue s1 s3 s4 s5 s7 .shelf)) ≡ filedOf (shelfIn o) slot issue s1 s3 s4 s5 s7 .shelf
+read-after-filing o slot issue s1 s3 s4 s5 s7 p a h =
+    laws.read-back _ (stored-filed (shelfIn o) slot issue s1 s3 s4 s5 s7 (laws.stored-in o p) a h)
+
+pub read-after-queue : (o q : List ℕ) → AllOctets o → AllOctets q → shelfIn (octetsOf (queueFiled (shelfIn o) q .shelf)) ≡ queueFiled (shelfIn o) q .shelf
+read-after-queue o q p a = laws.read-back _ (stored-queue (shelfIn o) q (laws.stored-in o p) a)
+
+pub read-after-joining : (a b : List ℕ) → AllOctets a → AllOctets b → shelfIn (joinOctets a b) ≡ joinShelf (shelfIn a) (shelfIn b)
+read-after-joining = laws.join-read
+
+-- ---- so octets may be stored or sent between any two calls of a history
+
+-- what a history was given is octets, and issues of 32 bits
+pub Given : History → Type 0
+Given start = Unit {0}
+Given (file slot x h) = AllOctets (x .s1) × (issueOf (x .issue) < 2 ^ 32) × Given h
+Given (queue q h) = AllOctets q × Given h
+Given (join g h) = Given g × Given h
+
+stored-history : (h : History) → Given h → Stored (shelfOf h)
+unfolding shelfOf Given
+stored-history start g = laws.stored-empty
+stored-history (file slot x h) g = stored-filed (shelfOf h) slot (x .issue) (x .s1) (x .s3) (x .s4) (x .s5) (x .s7) (stored-history h (g .2)) (g .0) (g .1)
+stored-history (queue q h) g = stored-queue (shelfOf h) q (stored-history h (g .1)) (g .0)
+stored-history (join h k) g = laws.stored-join (shelfOf h) (shelfOf k) (stored-history h (g .0)) (stored-history k (g .1))
+
+pub history-read-back : (h : History) → Given h → shelfIn (octetsOf (shelfOf h)) ≡ shelfOf h
+history-read-back h g = laws.read-back (shelfOf h) (stored-history h g)
+
+pub octets-greatest-card : (h : History) → Given h → (slot : ℕ) → slot < 64 → Keeps (acceptedAt slot h) (slotAt (shelfIn (octetsOf (shelfOf h))) slot)
+octets-greatest-card h g slot l = subst⁻¹ (λ (s : Shelf). Keeps (acceptedAt slot h) (slotAt s slot)) (history-read-back h g) (kept h slot l)
+
+-- ---- joining octets
+
+pub octets-join-commutes : (a b : List ℕ) → joinOctets a b ≡ joinOctets b a
+octets-join-commutes = laws.join-commutes
+
+pub octets-join-associates : (a b c : List ℕ) → AllOctets a → AllOctets b → AllOctets c → joinOctets (joinOctets a b) c ≡ joinOctets a (joinOctets b c)
+octets-join-associates = laws.join-associates
+
+pub octets-join-idempotent : (a : List ℕ) → AllOctets a → shelfIn (joinOctets a a) ≡ shelfIn a
+octets-join-idempotent = laws.join-same
