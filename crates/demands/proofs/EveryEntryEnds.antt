@@ -161,6 +161,14 @@ use Rattle.skogmund.proofs.part.skogmund_part.Statement as skogmund-part
 use Rattle.skogmund.proofs.part.skogmund_part.Met as skogmund-part-met
 use Rattle.skogmund.proofs.record.skogmund_read.Statement as skogmund-read
 use Rattle.skogmund.proofs.record.skogmund_read.Met as skogmund-read-met
+use Rattle.skogmund.proofs.shelves.skogmund_empty.Statement as skogmund-empty
+use Rattle.skogmund.proofs.shelves.skogmund_empty.Met as skogmund-empty-met
+use Rattle.skogmund.proofs.shelves.skogmund_join.Statement as skogmund-join
+use Rattle.skogmund.proofs.shelves.skogmund_join.Met as skogmund-join-met
+use Rattle.skogmund.proofs.shelves.skogmund_file_queue.Statement as skogmund-file-queue
+use Rattle.skogmund.proofs.shelves.skogmund_file_queue.Met as skogmund-file-queue-met
+use Rattle.skogmund.proofs.shelves.skogmund_slot.Statement as skogmund-slot
+use Rattle.skogmund.proofs.shelves.skogmund_slot.Met as skogmund-slot-met
 use Rattle.standard.proofs.read_all.Statement as standard-read-all
 use Rattle.standard.proofs.read_all.Met as standard-read-all-met
 use Rattle.standard.proofs.read_failed.Statement as standard-read-failed
@@ -448,3 +456,15 @@ skogmund-part-ends = skogmund-part-met.met
 
 pub skogmund-read-ends : {M : Type 1} → skogmund-read.statement M
 skogmund-read-ends = skogmund-read-met.met
+
+pub skogmund-empty-ends : {M : Type 1} → skogmund-empty.statement M
+skogmund-empty-ends = skogmund-empty-met.met
+
+pub skogmund-join-ends : {M : Type 1} → skogmund-join.statement M
+skogmund-join-ends = skogmund-join-met.met
+
+pub skogmund-file-queue-ends : {M : Type 1} → skogmund-file-queue.statement M
+skogmund-file-queue-ends = skogmund-file-queue-met.met
+
+pub skogmund-slot-ends : {M : Type 1} → skogmund-slot.statement M
+skogmund-slot-ends = skogmund-slot-met.met

@@ -90,6 +90,10 @@ use Rattle.skogmund.proofs.skogmund_unpack.Reads as skogmund-unpack
 use Rattle.skogmund.proofs.skogmund_list.Reads as skogmund-list
 use Rattle.skogmund.proofs.part.skogmund_part.Reads as skogmund-part
 use Rattle.skogmund.proofs.record.skogmund_read.Reads as skogmund-read
+use Rattle.skogmund.proofs.shelves.skogmund_empty.Reads as skogmund-empty
+use Rattle.skogmund.proofs.shelves.skogmund_join.Reads as skogmund-join
+use Rattle.skogmund.proofs.shelves.skogmund_file_queue.Reads as skogmund-file-queue
+use Rattle.skogmund.proofs.shelves.skogmund_slot.Reads as skogmund-slot
 use Rattle.standard.proofs.read_all.Reads as standard-read-all
 use Rattle.standard.proofs.read_failed.Reads as standard-read-failed
 use Rattle.standard.proofs.print.Reads as standard-print
@@ -376,3 +380,15 @@ skogmund-part-takes lent given = tt
 
 pub skogmund-read-takes : TakesEvery skogmund-read.Asked
 skogmund-read-takes lent given = tt
+
+pub skogmund-empty-takes : TakesEvery skogmund-empty.Asked
+skogmund-empty-takes lent given = tt
+
+pub skogmund-join-takes : TakesEvery skogmund-join.Asked
+skogmund-join-takes lent given = tt
+
+pub skogmund-file-queue-takes : TakesEvery skogmund-file-queue.Asked
+skogmund-file-queue-takes lent given = tt
+
+pub skogmund-slot-takes : TakesEvery skogmund-slot.Asked
+skogmund-slot-takes lent given = tt

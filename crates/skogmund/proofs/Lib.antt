@@ -1,3 +1,4 @@
 pub mod Words
 pub mod Templates
 pub mod PartsWithin
+pub mod Kept

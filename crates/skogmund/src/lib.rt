@@ -9,6 +9,7 @@ use packing::Unpacked;
 
 pub mod part;
 pub mod record;
+pub mod shelves;
 
 // 18 x 2^40: 18, of no section and no place.
 pub(crate) const NO_ROOM: u64 = 19791209299968;

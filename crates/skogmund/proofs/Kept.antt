@@ -1,0 +1,54 @@
+-- What the entries on a shelf's octets write.
+-- Assumes nothing.
+use Prim.Native.Nat.{ℕ, _+_, _≤_}
+use native.Mathlib.Omega.{arith}
+use mathlib.Core.Path.{_≡_, refl, sym, ap, ap₂, _∙_}
+use mathlib.Core.Bool.{Bool, true, false, cond}
+use mathlib.Core.List.{List, [], _∷_, _++_, append-nil}
+use lib.Dec.{eqb}
+use lib.IntN.{ℤ}
+use lib.ListN.{length, take, drop, set, drop-of-length-le}
+use lib.Seq.{sets, sets-eq, take-at, drop-append-add, drop-drop}
+use Rattle.layout.specs.declared.Refusal.{Refusal}
+use Rattle.shelf.specs.declared.Shelf.{Shelf}
+use Rattle.shelf_octets.specs.ShelfOctets.{octetsOf}
+use Rattle.shelf_octets.proofs.Laws.{shelf-length}
+use Rattle.text.specs.Text.{Written, written, append, startsWith}
+use Rattle.text.proofs.Laws.{append-whole}
+use Rattle.queue.specs.declared.QueueAnswer.the-variants.{Refused as refusedAll}
+use Rattle.queue.specs.Queues.{recordsFiled, fromStart, cutOf, queueRefusal, refusedQueue, acceptedQueue, queueFiled}
+
+-- a shelf's octets over those of another shelf
+pub written-over : (s : List ℕ) (x : Shelf) {out : List ℕ} {end : ℕ} → length s ≡ 2624 → written out end ≡ append (written s 0) (octetsOf x) → out ≡ octetsOf x
+unfolding startsWith
+written-over s x long e =
+    let t = octetsOf x in
+    let fits : length t ≤ length s = omega (arith, shelf-length x) in
+    let none : drop (length t) s ≡ [] = drop-of-length-le s {i = length t} (omega (arith, shelf-length x)) in
+    ap (λ (w : Written). w .octets) (e ∙ append-whole s t fits) ∙ ap (λ (l : List ℕ). t ++ l) none ∙ append-nil t
+
+-- three numbers, one after the other
+pub three-set : (l : List ℕ) (a b c : ℕ) → 3 ≤ length l → set (set (set l 0 a) 1 b) 2 c ≡ a ∷ b ∷ c ∷ drop 3 l
+three-set [] a b c h = absurd (omega arith)
+three-set (x ∷ []) a b c h = absurd (omega arith)
+three-set (x ∷ y ∷ []) a b c h = absurd (omega arith)
+three-set (x ∷ y ∷ z ∷ l) a b c h = refl
+
+-- a queue is refused at no place
+pub queue-place : (s : Shelf) (q : List ℕ) (x : Refusal) → queueFiled s q .answer ≡ refusedAll x → x .place ≤ 65536
+unfolding queueFiled
+queue-place s q x e = by-refusal (eqb (queueRefusal q) 0) e
+  where
+    by-refusal : (t : Bool) → cond t (acceptedQueue (recordsFiled (fromStart s) (cutOf q .records))) (refusedQueue s (queueRefusal q)) .answer ≡ refusedAll x → x .place ≤ 65536
+    by-refusal true e = let z : _≡_ {A = ℕ} 0 1 = cc in absurd (omega arith)
+    by-refusal false e = let z : x .place ≡ 0 = cc in omega arith
+
+-- the first eight values of a card, and then those of its product from place 8 on
+pub card-over : (l vs m : List ℤ) → length vs ≡ 8 → 64 ≤ length l → take 8 (sets l 0 vs) ++ (m ++ drop 35 (sets l 0 vs)) ≡ vs ++ (m ++ drop 35 l)
+card-over l vs m eight long =
+    let rest = drop 8 l in
+    let many : 0 + length vs ≡ 8 = omega arith in
+    let first : sets l 0 vs ≡ vs ++ rest = sets-eq vs l 0 (omega arith) ∙ ap (λ (n : ℕ). vs ++ drop n l) many in
+    let last : drop 35 (vs ++ rest) ≡ drop 35 l = ap (λ (n : ℕ). drop (n + 27) (vs ++ rest)) (sym eight) ∙ drop-append-add vs rest 27 ∙ drop-drop 27 8 l in
+    ap (λ (x : List ℤ). take 8 x ++ (m ++ drop 35 x)) first
+    ∙ ap₂ (λ (x y : List ℤ). x ++ (m ++ y)) (take-at vs rest 8 eight) last

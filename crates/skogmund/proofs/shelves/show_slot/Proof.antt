@@ -1,0 +1,86 @@
+-- `show_slot`: 0, or 34 and the values of the card.
+-- Assumes nothing.
+use Prim.Native.Nat.{_≤_}
+use native.Mathlib.Omega.{arith}
+use mathlib.Core.Path.{_≡_, refl, _∙_}
+use mathlib.Core.List.{List, [], _∷_, _++_, map}
+use lib.IntN.{ℤ, pos}
+use lib.ListN.{length, drop, set, length-set}
+use borrow.Author.Needs.{needs}
+use borrow.Author.Tests.{not-true, not-false}
+use denote.Ref.{now}
+use mir.Syntax.{w64}
+use mir.Val.{toZ}
+use mir.ValLaws.{toZ-pos}
+use Rattle.octets.specs.Octets.{part}
+use Rattle.text.proofs.Sizes.{wide, wide-kept, wide-fits}
+use Rattle.skogmund.specs.Shelves.{slotValues}
+use Rattle.skogmund.proofs.Kept.{card-over}
+use Rattle.skogmund.proofs.shelves.show_slot.Statement.{statement}
+use Rattle.skogmund.proofs.shelves.show_slot.Tie as tie
+
+first-set : (l : List ℤ) (z : ℤ) → 64 ≤ length l → set l 0 z ≡ z ∷ drop 1 l
+first-set [] z h = absurd (omega arith)
+first-set (x ∷ l) z h = refl
+
+returns : tie.Need-returns
+unfolding slotValues
+returns c =
+    let s = c .before .before in
+    rw (not-true (s .args .slot .held) (c .if1 .taken)) (first-set (now (s .args .values)) (pos 0) (s .pre))
+
+cast-values : tie.Need-cast-values
+cast-values c = wide-fits (c .before .before .before .before .before .before .args .slot .card .year) (c .struct-told .given .0 .1)
+
+same-length-2 : tie.Need-same-length-2
+same-length-2 c = simp length-set at (c .before .show-product .kept .0)
+
+returns-2 : tie.Need-returns-2
+unfolding slotValues part
+returns-2 c =
+    let p = c .before in
+    let k8 = p .before .before in
+    let told = k8 .before .before .before .before .before .before in
+    let e = told .before .before .before .before in
+    let s = e .before .before in
+    let x = s .args .slot .card in
+    let v₀ = now (s .args .values) in
+    let m = map pos (part (x .product) 1 27) in
+    let known = told .before .struct-known2 .given .1 in
+    let month = toZ-pos w64 (x .month) (omega (arith, known .0)) in
+    let day = toZ-pos w64 (x .day) (omega (arith, known .1 .0)) in
+    let hour = toZ-pos w64 (x .hour) (omega (arith, known .1 .1 .0)) in
+    let minute = toZ-pos w64 (x .minute) (omega (arith, known .1 .1 .1 .0)) in
+    let second = toZ-pos w64 (x .second) (omega (arith, known .1 .1 .1 .1 .0)) in
+    let issue = toZ-pos w64 (x .issue) (omega (arith, known .1 .1 .1 .1 .1 .0)) in
+    let year = wide-kept (x .year) (told .struct-told .given .0 .1) in
+    rw (not-false (s .args .slot .held) (e .if1 .left))
+    (p .show-product .ensures
+    ∙ card-over v₀ (pos 34 ∷ wide (x .year) ∷ toZ w64 (x .month) ∷ toZ w64 (x .day) ∷ toZ w64 (x .hour) ∷ toZ w64 (x .minute) ∷ toZ w64 (x .second) ∷ toZ w64 (x .issue) ∷ []) m refl (s .pre)
+    ∙ (λ i. pos 34 ∷ year i ∷ month i ∷ day i ∷ hour i ∷ minute i ∷ second i ∷ issue i ∷ (m ++ drop 35 v₀)))
+
+pub show-slot-spec : {M : Type 1} → statement M
+show-slot-spec =
+    tie.close
+    (tie.spec
+    (λ c. search needs)
+    (λ c. search needs)
+    returns
+    (λ c. search needs)
+    cast-values
+    (λ c. simp length-set (omega arith))
+    (λ c. search needs)
+    (λ c. simp length-set (omega arith))
+    (λ c. search needs)
+    (λ c. simp length-set (omega arith))
+    (λ c. search needs)
+    (λ c. simp length-set (omega arith))
+    (λ c. search needs)
+    (λ c. simp length-set (omega arith))
+    (λ c. search needs)
+    (λ c. simp length-set (omega arith))
+    (λ c. search needs)
+    (λ c. simp length-set (omega arith))
+    (λ c κs. simp length-set (omega arith))
+    same-length-2
+    returns-2)

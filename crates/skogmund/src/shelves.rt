@@ -1,0 +1,133 @@
+// Shelves for C and Rust: 2,624 octets that the caller keeps. Any octets are a shelf, so that nothing is asked of them but their number.
+ghost use mathlib.Core.Path.{_≡_};
+ghost use mathlib.Core.List.{[], _∷_, _++_, map};
+ghost use Prim.Native.Nat.{_≤_};
+ghost use lib.IntN.{pos};
+ghost use lib.ListN.{length, take, drop};
+ghost use Rattle.octets.specs.Octets.{part};
+ghost use Rattle.skogmund.specs.Shelves.{done, emptied, joined, filed, keptIn, filedQueue, over, slotValues, shown, slotShown};
+use queue::Counts;
+use queue::QueueAnswer;
+use shelf::Shelf;
+use shelf::Slot;
+
+const SHELF: usize = 2624;
+
+// 16 x 2^40: 16, of no section and no place.
+const NO_SLOT: u64 = 17592186044416;
+
+// The empty shelf.
+#[no_mangle]
+pub extern "C" fn skogmund_empty(shelf: &mut [u8]) -> u64
+    ensures { λ r. ⌜ done r (now (shelf .exit)) ≡ emptied (now (shelf .entry)) ⌝ }
+{
+    if shelf.len() != SHELF {
+        return super::NO_ROOM;
+    }
+    shelf_octets::write(shelf, Shelf::empty());
+    0
+}
+
+// Joins another shelf in, slot by slot.
+#[no_mangle]
+pub extern "C" fn skogmund_join(shelf: &mut [u8], other: &[u8]) -> u64
+    ensures { λ r. ⌜ done r (now (shelf .exit)) ≡ joined (now (shelf .entry)) (now (other .entry)) ⌝ }
+{
+    if shelf.len() != SHELF {
+        return super::NO_ROOM;
+    }
+    if other.len() != SHELF {
+        return super::NO_ROOM;
+    }
+    let ours = shelf_octets::read(shelf);
+    let theirs = shelf_octets::read(other);
+    shelf_octets::write(shelf, shelf::join(ours, theirs));
+    0
+}
+
+// Files a queue; the counts are its records kept, passed and refused.
+#[no_mangle]
+pub extern "C" fn skogmund_file_queue(shelf: &mut [u8], queue: &[u8], counts: &mut [u64]) -> u64
+    ensures { λ r. ⌜ filed r (now (shelf .exit)) (now (counts .exit)) ≡ filedQueue (now (shelf .entry)) (now (queue .entry)) (now (counts .entry)) ⌝ }
+{
+    let done = queue::file(shelf_octets::read(shelf), queue);
+    let after = done.shelf;
+    let answer = done.answer;
+    match answer {
+        QueueAnswer::Filed(n) => keep_counts(shelf, counts, after, n),
+        QueueAnswer::Refused(x) => super::code(x),
+    }
+}
+
+fn keep_counts(shelf: &mut [u8], counts: &mut [u64], after: Shelf, n: Counts) -> u64
+    ensures { λ r. ⌜ filed r (now (shelf .exit)) (now (counts .exit)) ≡ keptIn (now (shelf .entry)) (now (counts .entry)) after (n .kept ∷ n .passed ∷ n .refused ∷ []) ⌝ }
+{
+    if shelf.len() != SHELF {
+        return super::NO_ROOM;
+    }
+    if counts.len() < 3 {
+        return super::NO_ROOM;
+    }
+    shelf_octets::write(shelf, after);
+    counts[0] = n.kept as u64;
+    counts[1] = n.passed as u64;
+    counts[2] = n.refused as u64;
+    0
+}
+
+// What a slot holds: how many values follow, and they.
+#[no_mangle]
+pub extern "C" fn skogmund_slot(shelf: &[u8], slot: u64, values: &mut [i64]) -> u64
+    ensures { λ r. ⌜ shown r (now (values .exit)) ≡ slotShown (now (shelf .entry)) slot (now (values .entry)) ⌝ }
+{
+    if 63 < slot {
+        return NO_SLOT;
+    }
+    if shelf.len() != SHELF {
+        return super::NO_ROOM;
+    }
+    if values.len() < 64 {
+        return super::NO_ROOM;
+    }
+    let held = shelf::slot_of(shelf_octets::read(shelf), slot as usize);
+    show_slot(values, held);
+    0
+}
+
+fn show_slot(values: &mut [i64], slot: Slot)
+    requires { ⌜ 64 ≤ length (now values) ⌝ }
+    ensures { λ _. ⌜ now (values .exit) ≡ over (now (values .entry)) (slotValues slot) ⌝ }
+{
+    if !slot.held {
+        values[0] = 0;
+        return;
+    }
+    let card = slot.card;
+    let product = card.product;
+    values[0] = 34;
+    values[1] = card.year as i64;
+    values[2] = card.month as i64;
+    values[3] = card.day as i64;
+    values[4] = card.hour as i64;
+    values[5] = card.minute as i64;
+    values[6] = card.second as i64;
+    values[7] = card.issue as i64;
+    show_product(values, product);
+}
+
+fn show_product(values: &mut [i64], product: [u8; 27])
+    requires { ⌜ 64 ≤ length (now values) ⌝ }
+    ensures { λ _. ⌜ now (values .exit) ≡ take 8 (now (values .entry)) ++ (map pos (part product 1 27) ++ drop 35 (now (values .entry))) ⌝ }
+{
+    let mut i: usize = 0;
+    while i < 27 {
+        values[8 + i] = value_of(product[i]);
+        i += 1;
+    }
+}
+
+fn value_of(octet: u8) -> i64
+    ensures { λ r. ⌜ r ≡ pos octet ⌝ }
+{
+    octet as i64
+}
