@@ -2,3 +2,4 @@ pub mod Words
 pub mod Templates
 pub mod PartsWithin
 pub mod Kept
+pub mod RefusalsLeaveAll

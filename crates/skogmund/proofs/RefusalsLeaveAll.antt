@@ -1,0 +1,57 @@
+-- Where an entry on a shelf's octets refuses, each lent buffer is as it was.
+-- Assumes nothing.
+use Prim.Native.Nat.{ℕ}
+use mathlib.Core.Path.{_≡_, refl}
+use mathlib.Core.Bool.{Bool, true, false, cond, _&&_}
+use mathlib.Core.List.{List, [], _∷_}
+use lib.Dec.{ltb, leb}
+use lib.IntN.{ℤ}
+use lib.ListN.{length}
+use Rattle.shelf.specs.declared.Shelf.{Shelf}
+use Rattle.shelf.specs.Shelves.{slotAt}
+use Rattle.shelf_octets.specs.ShelfOctets.{shelfIn, octetsOf}
+use Rattle.queue.specs.declared.QueueAnswer.{QueueAnswer}
+use Rattle.queue.specs.declared.QueueAnswer.the-variants.{Filed as filedAll, Refused as refusedAll}
+use Rattle.queue.specs.Queues.{queueFiled}
+use Rattle.skogmund.specs.Entries.{code}
+use Rattle.skogmund.specs.Shelves.{noRoom, isShelf, over, done, emptied, joined, filed, keptIn, queueKept, filedQueue, slotValues, shown, slotShown}
+
+-- with or without room for what is done
+by-room : (t : Bool) (s after : List ℕ) → (cond t (done 0 after) (done noRoom s) .answer ≡ 0 → ⊥) → cond t (done 0 after) (done noRoom s) .shelf ≡ s
+by-room true s after h = absurd (h refl)
+by-room false s after h = refl
+
+pub empty-leaves : (s : List ℕ) → (emptied s .answer ≡ 0 → ⊥) → emptied s .shelf ≡ s
+unfolding emptied
+empty-leaves s h = by-room (isShelf s) s _ h
+
+pub join-leaves : (s other : List ℕ) → (joined s other .answer ≡ 0 → ⊥) → joined s other .shelf ≡ s
+unfolding joined
+join-leaves s other h = by-room (isShelf s && isShelf other) s _ h
+
+keep-leaves : (s places : List ℕ) (after : Shelf) (ns : List ℕ) → (keptIn s places after ns .answer ≡ 0 → ⊥) → (keptIn s places after ns .shelf ≡ s) × (keptIn s places after ns .numbers ≡ places)
+unfolding keptIn
+keep-leaves s places after ns h = by (isShelf s && leb (length ns) (length places)) (octetsOf after) (over places ns) h
+  where
+    by : (t : Bool) (o l : List ℕ) → (cond t (filed 0 o l) (filed noRoom s places) .answer ≡ 0 → ⊥)
+        → (cond t (filed 0 o l) (filed noRoom s places) .shelf ≡ s) × (cond t (filed 0 o l) (filed noRoom s places) .numbers ≡ places)
+    by true o l h = absurd (h refl)
+    by false o l h = (refl, refl)
+
+pub queue-leaves : (s q places : List ℕ) → (filedQueue s q places .answer ≡ 0 → ⊥) → (filedQueue s q places .shelf ≡ s) × (filedQueue s q places .numbers ≡ places)
+unfolding filedQueue queueKept
+queue-leaves s q places h = by-answer (queueFiled (shelfIn s) q .shelf) (queueFiled (shelfIn s) q .answer) h
+  where
+    by-answer : (after : Shelf) (x : QueueAnswer) → (queueKept s places after x .answer ≡ 0 → ⊥) → (queueKept s places after x .shelf ≡ s) × (queueKept s places after x .numbers ≡ places)
+    by-answer after (refusedAll x) h = (refl, refl)
+    by-answer after (filedAll n) h = keep-leaves s places after (n .kept ∷ n .passed ∷ n .refused ∷ []) h
+
+pub slot-leaves : (s : List ℕ) (slot : ℕ) (values : List ℤ) → (slotShown s slot values .answer ≡ 0 → ⊥) → slotShown s slot values .values ≡ values
+unfolding slotShown
+slot-leaves s slot values h = by (ltb 63 slot) (isShelf s && leb 64 (length values)) (over values (slotValues (slotAt (shelfIn s) slot))) h
+  where
+    by : (t u : Bool) (l : List ℤ) → (cond t (shown (code 16 0 0) values) (cond u (shown 0 l) (shown noRoom values)) .answer ≡ 0 → ⊥)
+        → cond t (shown (code 16 0 0) values) (cond u (shown 0 l) (shown noRoom values)) .values ≡ values
+    by true u l h = refl
+    by false true l h = absurd (h refl)
+    by false false l h = refl
