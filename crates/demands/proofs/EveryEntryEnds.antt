@@ -163,6 +163,8 @@ use Rattle.skogmund.proofs.record.skogmund_read.Statement as skogmund-read
 use Rattle.skogmund.proofs.record.skogmund_read.Met as skogmund-read-met
 use Rattle.skogmund.proofs.shelves.skogmund_empty.Statement as skogmund-empty
 use Rattle.skogmund.proofs.shelves.skogmund_empty.Met as skogmund-empty-met
+use Rattle.skogmund.proofs.shelves.skogmund_file.Statement as skogmund-file
+use Rattle.skogmund.proofs.shelves.skogmund_file.Met as skogmund-file-met
 use Rattle.skogmund.proofs.shelves.skogmund_join.Statement as skogmund-join
 use Rattle.skogmund.proofs.shelves.skogmund_join.Met as skogmund-join-met
 use Rattle.skogmund.proofs.shelves.skogmund_file_queue.Statement as skogmund-file-queue
@@ -459,6 +461,9 @@ skogmund-read-ends = skogmund-read-met.met
 
 pub skogmund-empty-ends : {M : Type 1} → skogmund-empty.statement M
 skogmund-empty-ends = skogmund-empty-met.met
+
+pub skogmund-file-ends : {M : Type 1} → skogmund-file.statement M
+skogmund-file-ends = skogmund-file-met.met
 
 pub skogmund-join-ends : {M : Type 1} → skogmund-join.statement M
 skogmund-join-ends = skogmund-join-met.met

@@ -91,6 +91,7 @@ use Rattle.skogmund.proofs.skogmund_list.Reads as skogmund-list
 use Rattle.skogmund.proofs.part.skogmund_part.Reads as skogmund-part
 use Rattle.skogmund.proofs.record.skogmund_read.Reads as skogmund-read
 use Rattle.skogmund.proofs.shelves.skogmund_empty.Reads as skogmund-empty
+use Rattle.skogmund.proofs.shelves.skogmund_file.Reads as skogmund-file
 use Rattle.skogmund.proofs.shelves.skogmund_join.Reads as skogmund-join
 use Rattle.skogmund.proofs.shelves.skogmund_file_queue.Reads as skogmund-file-queue
 use Rattle.skogmund.proofs.shelves.skogmund_slot.Reads as skogmund-slot
@@ -383,6 +384,9 @@ skogmund-read-takes lent given = tt
 
 pub skogmund-empty-takes : TakesEvery skogmund-empty.Asked
 skogmund-empty-takes lent given = tt
+
+pub skogmund-file-takes : TakesEvery skogmund-file.Asked
+skogmund-file-takes lent given = tt
 
 pub skogmund-join-takes : TakesEvery skogmund-join.Asked
 skogmund-join-takes lent given = tt

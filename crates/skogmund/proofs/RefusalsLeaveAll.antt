@@ -10,11 +10,15 @@ use lib.ListN.{length}
 use Rattle.shelf.specs.declared.Shelf.{Shelf}
 use Rattle.shelf.specs.Shelves.{slotAt}
 use Rattle.shelf_octets.specs.ShelfOctets.{shelfIn, octetsOf}
+use Rattle.filing.specs.declared.Answer.{Answer}
+use Rattle.filing.specs.declared.Answer.the-variants.{Kept, Passed, Refused as refusedField}
+use Rattle.filing.specs.Filing.{filedOf}
+use Rattle.queue.specs.Records.{issueFrom}
 use Rattle.queue.specs.declared.QueueAnswer.{QueueAnswer}
 use Rattle.queue.specs.declared.QueueAnswer.the-variants.{Filed as filedAll, Refused as refusedAll}
 use Rattle.queue.specs.Queues.{queueFiled}
 use Rattle.skogmund.specs.Entries.{code}
-use Rattle.skogmund.specs.Shelves.{noRoom, isShelf, over, done, emptied, joined, filed, keptIn, queueKept, filedQueue, slotValues, shown, slotShown}
+use Rattle.skogmund.specs.Shelves.{noRoom, isShelf, over, done, emptied, joined, Filed, filed, keptIn, fieldKept, filedField, queueKept, filedQueue, slotValues, shown, slotShown}
 
 -- with or without room for what is done
 by-room : (t : Bool) (s after : List ℕ) → (cond t (done 0 after) (done noRoom s) .answer ≡ 0 → ⊥) → cond t (done 0 after) (done noRoom s) .shelf ≡ s
@@ -37,6 +41,24 @@ keep-leaves s places after ns h = by (isShelf s && leb (length ns) (length place
         → (cond t (filed 0 o l) (filed noRoom s places) .shelf ≡ s) × (cond t (filed 0 o l) (filed noRoom s places) .numbers ≡ places)
     by true o l h = absurd (h refl)
     by false o l h = (refl, refl)
+
+module _ (s : List ℕ) (slot stored : ℕ) (s1 s3 s4 s5 s7 places : List ℕ) where
+  abbrev made : Filed
+  made = filedField s slot stored s1 s3 s4 s5 s7 places
+
+  pub field-leaves : (made .answer ≡ 0 → ⊥) → (made .shelf ≡ s) × (made .numbers ≡ places)
+  unfolding filedField fieldKept
+  field-leaves h = by-number (ltb 4294967296 stored) (filedOf (shelfIn s) slot (issueFrom stored) s1 s3 s4 s5 s7 .shelf) (filedOf (shelfIn s) slot (issueFrom stored) s1 s3 s4 s5 s7 .answer) h
+    where
+      by-answer : (after : Shelf) (x : Answer) → (fieldKept s places after x .answer ≡ 0 → ⊥) → (fieldKept s places after x .shelf ≡ s) × (fieldKept s places after x .numbers ≡ places)
+      by-answer after (refusedField x) h = (refl, refl)
+      by-answer after Kept h = keep-leaves s places after (1 ∷ []) h
+      by-answer after Passed h = keep-leaves s places after (0 ∷ []) h
+
+      by-number : (t : Bool) (after : Shelf) (x : Answer) → (cond t (filed (code 19 0 0) s places) (fieldKept s places after x) .answer ≡ 0 → ⊥)
+          → (cond t (filed (code 19 0 0) s places) (fieldKept s places after x) .shelf ≡ s) × (cond t (filed (code 19 0 0) s places) (fieldKept s places after x) .numbers ≡ places)
+      by-number true after x h = (refl, refl)
+      by-number false after x h = by-answer after x h
 
 pub queue-leaves : (s q places : List ℕ) → (filedQueue s q places .answer ≡ 0 → ⊥) → (filedQueue s q places .shelf ≡ s) × (filedQueue s q places .numbers ≡ places)
 unfolding filedQueue queueKept

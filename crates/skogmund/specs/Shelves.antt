@@ -12,6 +12,10 @@ use Rattle.shelf.specs.declared.Slot.{Slot}
 use Rattle.shelf.specs.declared.Shelf.{Shelf}
 use Rattle.shelf.specs.Shelves.{slotAt}
 use Rattle.shelf_octets.specs.ShelfOctets.{shelfIn, octetsOf, joinOctets}
+use Rattle.filing.specs.declared.Answer.{Answer}
+use Rattle.filing.specs.declared.Answer.the-variants.{Kept, Passed, Refused as refusedField}
+use Rattle.filing.specs.Filing.{filedOf}
+use Rattle.queue.specs.Records.{issueFrom}
 use Rattle.queue.specs.declared.QueueAnswer.{QueueAnswer}
 use Rattle.queue.specs.declared.QueueAnswer.the-variants.{Filed as filedAll, Refused as refusedAll}
 use Rattle.queue.specs.Queues.{queueFiled}
@@ -60,6 +64,20 @@ filed answer shelf numbers = record { answer = answer; shelf = shelf; numbers = 
 unfoldable pub keptIn : List ℕ → List ℕ → Shelf → List ℕ → Filed
 keptIn s places after ns =
     cond (isShelf s && leb (length ns) (length places)) (filed 0 (octetsOf after) (over places ns)) (filed noRoom s places)
+
+-- a field is refused, or whether its slot changed is kept with the shelf
+unfoldable pub fieldKept : List ℕ → List ℕ → Shelf → Answer → Filed
+fieldKept s places after (refusedField x) = filed (codeOf x) s places
+fieldKept s places after Kept = keptIn s places after (1 ∷ [])
+fieldKept s places after Passed = keptIn s places after (0 ∷ [])
+
+-- 19 comes before all that filing refuses
+unfoldable pub filedField : List ℕ → ℕ → ℕ → List ℕ → List ℕ → List ℕ → List ℕ → List ℕ → List ℕ → Filed
+filedField s slot stored s1 s3 s4 s5 s7 places =
+    cond (ltb 4294967296 stored) (filed (code 19 0 0) s places)
+    (fieldKept s places
+    (filedOf (shelfIn s) slot (issueFrom stored) s1 s3 s4 s5 s7 .shelf)
+    (filedOf (shelfIn s) slot (issueFrom stored) s1 s3 s4 s5 s7 .answer))
 
 -- a queue is refused, or its three counts are kept with the shelf
 unfoldable pub queueKept : List ℕ → List ℕ → Shelf → QueueAnswer → Filed

@@ -5,7 +5,10 @@ ghost use Prim.Native.Nat.{_≤_};
 ghost use lib.IntN.{pos};
 ghost use lib.ListN.{length, take, drop};
 ghost use Rattle.octets.specs.Octets.{part};
-ghost use Rattle.skogmund.specs.Shelves.{done, emptied, joined, filed, keptIn, filedQueue, over, slotValues, shown, slotShown};
+ghost use Rattle.queue.specs.Records.{issueFrom};
+ghost use Rattle.skogmund.specs.Shelves.{done, emptied, joined, filed, keptIn, filedField, filedQueue, over, slotValues, shown, slotShown};
+use filing::Answer;
+use filing::Issue;
 use queue::Counts;
 use queue::QueueAnswer;
 use shelf::Shelf;
@@ -15,6 +18,9 @@ const SHELF: usize = 2624;
 
 // 16 x 2^40: 16, of no section and no place.
 const NO_SLOT: u64 = 17592186044416;
+
+// 19 x 2^40: a number that is above 4,294,967,296.
+const MALFORMED: u64 = 20890720927744;
 
 // The empty shelf.
 #[no_mangle]
@@ -42,6 +48,68 @@ pub extern "C" fn skogmund_join(shelf: &mut [u8], other: &[u8]) -> u64
     let ours = shelf_octets::read(shelf);
     let theirs = shelf_octets::read(other);
     shelf_octets::write(shelf, shelf::join(ours, theirs));
+    0
+}
+
+// Files a field; `kept` is 1 where the slot changed, and 0 where it did not.
+#[no_mangle]
+pub extern "C" fn skogmund_file<'s, 'a, 'k>(
+    shelf: &'s mut [u8],
+    slot: u64,
+    issue_plus_1: u64,
+    section1: &'a [u8],
+    section3: &'a [u8],
+    section4: &'a [u8],
+    section5: &'a [u8],
+    section7: &'a [u8],
+    kept: &'k mut [u64],
+) -> u64
+    ensures { λ r. ⌜ filed r (now (shelf .exit)) (now (kept .exit)) ≡ filedField (now (shelf .entry)) slot issue_plus_1 (now (section1 .entry)) (now (section3 .entry)) (now (section4 .entry)) (now (section5 .entry)) (now (section7 .entry)) (now (kept .entry)) ⌝ }
+{
+    if 4294967296 < issue_plus_1 {
+        return MALFORMED;
+    }
+    let issue = issue_from(issue_plus_1);
+    let done = filing::file_by_value(
+        shelf_octets::read(shelf),
+        slot as usize,
+        issue,
+        section1,
+        section3,
+        section4,
+        section5,
+        section7,
+    );
+    let after = done.shelf;
+    let answer = done.answer;
+    match answer {
+        Answer::Kept => keep_flag(shelf, kept, after, 1),
+        Answer::Passed => keep_flag(shelf, kept, after, 0),
+        Answer::Refused(x) => super::code(x),
+    }
+}
+
+fn issue_from(stored: u64) -> Issue
+    requires { ⌜ stored ≤ 4294967296 ⌝ }
+    ensures { λ r. ⌜ r ≡ issueFrom stored ⌝ }
+{
+    if stored == 0 {
+        return Issue::NotNamed;
+    }
+    Issue::Named((stored - 1) as u32)
+}
+
+fn keep_flag(shelf: &mut [u8], kept: &mut [u64], after: Shelf, flag: u64) -> u64
+    ensures { λ r. ⌜ filed r (now (shelf .exit)) (now (kept .exit)) ≡ keptIn (now (shelf .entry)) (now (kept .entry)) after (flag ∷ []) ⌝ }
+{
+    if shelf.len() != SHELF {
+        return super::NO_ROOM;
+    }
+    if kept.len() == 0 {
+        return super::NO_ROOM;
+    }
+    shelf_octets::write(shelf, after);
+    kept[0] = flag;
     0
 }
 
