@@ -3,20 +3,15 @@
 use Prim.Native.Nat.{ℕ, _+_, _≤_}
 use native.Mathlib.Omega.{arith}
 use mathlib.Core.Path.{_≡_, refl, sym, ap, ap₂, _∙_}
-use mathlib.Core.Bool.{Bool, true, false, cond}
 use mathlib.Core.List.{List, [], _∷_, _++_, append-nil}
-use lib.Dec.{eqb}
 use lib.IntN.{ℤ}
 use lib.ListN.{length, take, drop, set, drop-of-length-le}
 use lib.Seq.{sets, sets-eq, take-at, drop-append-add, drop-drop}
-use Rattle.layout.specs.declared.Refusal.{Refusal}
 use Rattle.shelf.specs.declared.Shelf.{Shelf}
 use Rattle.shelf_octets.specs.ShelfOctets.{octetsOf}
 use Rattle.shelf_octets.proofs.Laws.{shelf-length}
 use Rattle.text.specs.Text.{Written, written, append, startsWith}
 use Rattle.text.proofs.Laws.{append-whole}
-use Rattle.queue.specs.declared.QueueAnswer.the-variants.{Refused as refusedAll}
-use Rattle.queue.specs.Queues.{recordsFiled, fromStart, cutOf, queueRefusal, refusedQueue, acceptedQueue, queueFiled}
 
 -- a shelf's octets over those of another shelf
 pub written-over : (s : List ℕ) (x : Shelf) {out : List ℕ} {end : ℕ} → length s ≡ 2624 → written out end ≡ append (written s 0) (octetsOf x) → out ≡ octetsOf x
@@ -33,15 +28,6 @@ three-set [] a b c h = absurd (omega arith)
 three-set (x ∷ []) a b c h = absurd (omega arith)
 three-set (x ∷ y ∷ []) a b c h = absurd (omega arith)
 three-set (x ∷ y ∷ z ∷ l) a b c h = refl
-
--- a queue is refused at no place
-pub queue-place : (s : Shelf) (q : List ℕ) (x : Refusal) → queueFiled s q .answer ≡ refusedAll x → x .place ≤ 65536
-unfolding queueFiled
-queue-place s q x e = by-refusal (eqb (queueRefusal q) 0) e
-  where
-    by-refusal : (t : Bool) → cond t (acceptedQueue (recordsFiled (fromStart s) (cutOf q .records))) (refusedQueue s (queueRefusal q)) .answer ≡ refusedAll x → x .place ≤ 65536
-    by-refusal true e = let z : _≡_ {A = ℕ} 0 1 = cc in absurd (omega arith)
-    by-refusal false e = let z : x .place ≡ 0 = cc in omega arith
 
 -- the first eight values of a card, and then those of its product from place 8 on
 pub card-over : (l vs m : List ℤ) → length vs ≡ 8 → 64 ≤ length l → take 8 (sets l 0 vs) ++ (m ++ drop 35 (sets l 0 vs)) ≡ vs ++ (m ++ drop 35 l)

@@ -3,4 +3,3 @@ pub mod Templates
 pub mod PartsWithin
 pub mod Kept
 pub mod RefusalsLeaveAll
-pub mod Fields

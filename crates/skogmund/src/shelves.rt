@@ -28,7 +28,7 @@ pub extern "C" fn skogmund_empty(shelf: &mut [u8]) -> u64
     ensures { λ r. ⌜ done r (now (shelf .exit)) ≡ emptied (now (shelf .entry)) ⌝ }
 {
     if shelf.len() != SHELF {
-        return super::NO_ROOM;
+        return crate::NO_ROOM;
     }
     shelf_octets::write(shelf, Shelf::empty());
     0
@@ -40,10 +40,10 @@ pub extern "C" fn skogmund_join(shelf: &mut [u8], other: &[u8]) -> u64
     ensures { λ r. ⌜ done r (now (shelf .exit)) ≡ joined (now (shelf .entry)) (now (other .entry)) ⌝ }
 {
     if shelf.len() != SHELF {
-        return super::NO_ROOM;
+        return crate::NO_ROOM;
     }
     if other.len() != SHELF {
-        return super::NO_ROOM;
+        return crate::NO_ROOM;
     }
     let ours = shelf_octets::read(shelf);
     let theirs = shelf_octets::read(other);
@@ -85,7 +85,7 @@ pub extern "C" fn skogmund_file<'s, 'a, 'k>(
     match answer {
         Answer::Kept => keep_flag(shelf, kept, after, 1),
         Answer::Passed => keep_flag(shelf, kept, after, 0),
-        Answer::Refused(x) => super::code(x),
+        Answer::Refused(x) => crate::code(x),
     }
 }
 
@@ -103,10 +103,10 @@ fn keep_flag(shelf: &mut [u8], kept: &mut [u64], after: Shelf, flag: u64) -> u64
     ensures { λ r. ⌜ filed r (now (shelf .exit)) (now (kept .exit)) ≡ keptIn (now (shelf .entry)) (now (kept .entry)) after (flag ∷ []) ⌝ }
 {
     if shelf.len() != SHELF {
-        return super::NO_ROOM;
+        return crate::NO_ROOM;
     }
     if kept.len() == 0 {
-        return super::NO_ROOM;
+        return crate::NO_ROOM;
     }
     shelf_octets::write(shelf, after);
     kept[0] = flag;
@@ -123,7 +123,7 @@ pub extern "C" fn skogmund_file_queue(shelf: &mut [u8], queue: &[u8], counts: &m
     let answer = done.answer;
     match answer {
         QueueAnswer::Filed(n) => keep_counts(shelf, counts, after, n),
-        QueueAnswer::Refused(x) => super::code(x),
+        QueueAnswer::Refused(x) => crate::code(x),
     }
 }
 
@@ -131,10 +131,10 @@ fn keep_counts(shelf: &mut [u8], counts: &mut [u64], after: Shelf, n: Counts) ->
     ensures { λ r. ⌜ filed r (now (shelf .exit)) (now (counts .exit)) ≡ keptIn (now (shelf .entry)) (now (counts .entry)) after (n .kept ∷ n .passed ∷ n .refused ∷ []) ⌝ }
 {
     if shelf.len() != SHELF {
-        return super::NO_ROOM;
+        return crate::NO_ROOM;
     }
     if counts.len() < 3 {
-        return super::NO_ROOM;
+        return crate::NO_ROOM;
     }
     shelf_octets::write(shelf, after);
     counts[0] = n.kept as u64;
@@ -152,10 +152,10 @@ pub extern "C" fn skogmund_slot(shelf: &[u8], slot: u64, values: &mut [i64]) -> 
         return NO_SLOT;
     }
     if shelf.len() != SHELF {
-        return super::NO_ROOM;
+        return crate::NO_ROOM;
     }
     if values.len() < 64 {
-        return super::NO_ROOM;
+        return crate::NO_ROOM;
     }
     let held = shelf::slot_of(shelf_octets::read(shelf), slot as usize);
     show_slot(values, held);

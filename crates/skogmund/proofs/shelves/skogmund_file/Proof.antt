@@ -13,7 +13,7 @@ use Rattle.filing.specs.declared.Filed.{Filed}
 use Rattle.filing.specs.Filing.{filedOf}
 use Rattle.queue.specs.Records.{issueFrom}
 use Rattle.skogmund.specs.Shelves.{filed, fieldKept, filedField}
-use Rattle.skogmund.proofs.Fields.{filing-place}
+use Rattle.refusals.proofs.RefusalNumbers.{filing-refuses}
 use Rattle.skogmund.proofs.shelves.skogmund_file.Statement.{statement}
 use Rattle.skogmund.proofs.shelves.skogmund_file.Tie as tie
 
@@ -43,7 +43,7 @@ returns c = simp (lt-ltb _ _ (c .if1 .taken))
 code-requires : tie.Need-code-requires
 code-requires c κs =
     let f = c .before .before .before .before in
-    filing-place _ _ _ _ _ _ _ _ _ (sym (ap (λ (x : Filed). x .answer) (filed-is f)) ∙ c .before .answer .given .1)
+    filing-refuses _ _ _ _ _ _ _ _ _ (sym (ap (λ (x : Filed). x .answer) (filed-is f)) ∙ c .before .answer .given .1) .within
 
 returns-2 : tie.Need-returns-2
 unfolding filedField fieldKept

@@ -10,7 +10,7 @@ use Rattle.shelf_octets.specs.ShelfOctets.{shelfIn}
 use Rattle.queue.specs.declared.QueueFiled.{QueueFiled}
 use Rattle.queue.specs.Queues.{queueFiled}
 use Rattle.skogmund.specs.Shelves.{filed, queueKept, filedQueue}
-use Rattle.skogmund.proofs.Kept.{queue-place}
+use Rattle.refusals.proofs.RefusalNumbers.{queue-refuses}
 use Rattle.skogmund.proofs.shelves.skogmund_file_queue.Statement.{statement}
 use Rattle.skogmund.proofs.shelves.skogmund_file_queue.Tie as tie
 
@@ -24,7 +24,7 @@ filed-is f = f .file .ensures ∙ ap (λ (s : Shelf). queueFiled s (now (start-o
 code-requires : tie.Need-code-requires
 code-requires c κs =
     let f = c .before .before .before .before in
-    queue-place _ _ _ (sym (ap (λ (x : QueueFiled). x .answer) (filed-is f)) ∙ c .before .answer2 .given .1)
+    queue-refuses _ _ _ (sym (ap (λ (x : QueueFiled). x .answer) (filed-is f)) ∙ c .before .answer2 .given .1) .within
 
 returns : tie.Need-returns
 unfolding filedQueue queueKept
