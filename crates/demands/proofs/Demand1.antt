@@ -11,7 +11,8 @@ pub use Rattle.demands.proofs.OneAnswer.{one-identification, one-grid, 
 -- ".. or refuses with a number from document 01.": its table lists the number for the section, and the place is 0 except with 8,
 -- and then an octet that a section can have.
 pub use Rattle.refusals.proofs.RefusalNumbers.{identification-refuses, grid-refuses, product-refuses, packing-refuses, data-refuses, unpacking-refuses, field-refuses, filing-refuses, record-refuses, queue-refuses, queue-number, head-number}
--- "A refusal changes no shelf and no lent buffer.": the theorems of this file.
+-- "A refusal changes no shelf and no lent buffer.": the theorems of this file, and for the entries for C
+pub use Rattle.skogmund.proofs.RefusalsLeaveAll.{read-leaves, part-leaves, list-leaves, empty-leaves, join-leaves, field-leaves, queue-leaves, slot-leaves}
 use Prim.Native.Nat.{ℕ}
 use mathlib.Core.Path.{_≡_, refl, sym, ap, _∙_}
 use mathlib.Core.List.{List}
@@ -65,7 +66,7 @@ queue-keeps-shelf shelf q x e = by-refusal (eqb (queueRefusal q) 0) e
     by-refusal true e = let z : _≡_ {A = ℕ} 0 1 = cc in absurd (omega arith)
     by-refusal false e = refl
 
--- ".. and no lent buffer.": `unpack` is the one entry that refuses and may change a buffer. Sections and queues are lent to be read only.
+-- ".. and no lent buffer.": of the entries that refuse, `unpack` and those for C may change a buffer. Sections and queues are lent to be read only.
 
 pub unpacking-keeps-row : (five seven row later : List ℕ) (x : Refusal) → Unpacks five seven row (refusedUnpacking x) later → later ≡ row
 unfolding toldUnpacked rowAfter

@@ -1,4 +1,4 @@
--- Where an entry on a shelf's octets refuses, each lent buffer is as it was.
+-- Where an entry for C refuses, each lent buffer is as it was. Of `skogmund_unpack` the contract is `packing::unpack`'s.
 -- Assumes nothing.
 use Prim.Native.Nat.{ℕ}
 use mathlib.Core.Path.{_≡_, refl}
@@ -6,7 +6,8 @@ use mathlib.Core.Bool.{Bool, true, false, cond, _&&_}
 use mathlib.Core.List.{List, [], _∷_}
 use lib.Dec.{ltb, leb}
 use lib.IntN.{ℤ}
-use lib.ListN.{length}
+use lib.ListN.{length, set}
+use Rattle.layout.specs.Outcomes.{Outcome, refused, read}
 use Rattle.shelf.specs.declared.Shelf.{Shelf}
 use Rattle.shelf.specs.Shelves.{slotAt}
 use Rattle.shelf_octets.specs.ShelfOctets.{shelfIn, octetsOf}
@@ -17,8 +18,13 @@ use Rattle.queue.specs.Records.{issueFrom}
 use Rattle.queue.specs.declared.QueueAnswer.{QueueAnswer}
 use Rattle.queue.specs.declared.QueueAnswer.the-variants.{Filed as filedAll, Refused as refusedAll}
 use Rattle.queue.specs.Queues.{queueFiled}
-use Rattle.skogmund.specs.Entries.{code}
-use Rattle.skogmund.specs.Shelves.{noRoom, isShelf, over, done, emptied, joined, Filed, filed, keptIn, fieldKept, filedField, queueKept, filedQueue, slotValues, shown, slotShown}
+use Rattle.report.specs.Texts.{listing}
+use Rattle.skogmund.specs.Entries.{code, coded, over, fits, Listed}
+use Rattle.skogmund.specs.Parts.{partSpan, tellSpan, Stands}
+use Rattle.skogmund.specs.Records.{sectionOutcome, intoRow, valuesAfter, ReadInto}
+use Rattle.skogmund.specs.Shelves.{noRoom, isShelf, done, emptied, joined, Filed, filed, keptIn, fieldKept, filedField, queueKept, filedQueue, slotValues, shown, slotShown}
+
+-- ---- shelves as octets
 
 -- with or without room for what is done
 by-room : (t : Bool) (s after : List ℕ) → (cond t (done 0 after) (done noRoom s) .answer ≡ 0 → ⊥) → cond t (done 0 after) (done noRoom s) .shelf ≡ s
@@ -77,3 +83,27 @@ slot-leaves s slot values h = by (ltb 63 slot) (isShelf s && leb 64 (length valu
     by true u l h = refl
     by false true l h = absurd (h refl)
     by false false l h = refl
+
+-- ---- sections and listings
+
+pub read-leaves : (section : ℕ) (s : List ℕ) (row : List ℤ) (answer : ℕ) (row′ : List ℤ) → ReadInto section s row answer row′ → (answer ≡ 0 → ⊥) → row′ ≡ row
+unfolding valuesAfter
+read-leaves section s row answer row′ p h = by (intoRow (sectionOutcome section s) row) (p .answers) (p .writes)
+  where
+    by : (o : Outcome) → answer ≡ coded o → row′ ≡ valuesAfter o row → row′ ≡ row
+    by (refused number section place) a w = w
+    by (read vs) a w = absurd (h a)
+
+pub part-leaves : (part : ℕ) (s : List ℕ) (k : ℕ) (places : List ℕ) (answer : ℕ) (places′ : List ℕ) → Stands part s k places answer places′ → (answer ≡ 0 → ⊥) → places′ ≡ places
+part-leaves part s k places answer places′ p h = by (ltb (length places) 2) (p .answers) (p .writes)
+  where
+    by : (t : Bool) → answer ≡ cond t (code 18 0 0) 0 → places′ ≡ cond t places (tellSpan (partSpan part s k) places) → places′ ≡ places
+    by true a w = w
+    by false a w = absurd (h a)
+
+pub list-leaves : (q text places : List ℕ) (answer : ℕ) (text′ places′ : List ℕ) → Listed q text places answer text′ places′ → (answer ≡ 0 → ⊥) → (text′ ≡ text) × (places′ ≡ places)
+list-leaves q text places answer text′ places′ p h = by (fits q text places) (p .answers) (p .writes) (p .counts)
+  where
+    by : (t : Bool) → answer ≡ cond t 0 (code 18 0 0) → text′ ≡ cond t (over text (listing q)) text → places′ ≡ cond t (set places 0 (length (listing q))) places → (text′ ≡ text) × (places′ ≡ places)
+    by true a w c = absurd (h a)
+    by false a w c = (w, c)

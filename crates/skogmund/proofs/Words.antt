@@ -8,7 +8,7 @@ use mathlib.Core.Bool.{Bool, true, false, cond, _&&_, true≢false}
 use mathlib.Core.List.{List, [], _∷_, _++_}
 use lib.Dec.{eqb}
 use lib.IntN.{ℤ, pos}
-use lib.ListN.{length, set}
+use lib.ListN.{length, drop, set}
 use lib.Seq.{sets, sets-eq}
 use borrow.Author.Tests.{eqb-true}
 use mir.Syntax.{w64}
@@ -120,7 +120,10 @@ as-many (l ∷ ls) at s = ap suc (as-many ls (at + kindOf l .octets) s)
 pub count-first : (ns row : List ℤ) → 1 + length ns ≤ length row → set (sets row 1 ns) 0 (pos (length ns)) ≡ counted ns row
 unfolding counted
 count-first ns [] h = absurd (omega arith)
-count-first ns (z ∷ row) h = ap (λ (l : List ℤ). set l 0 (pos (length ns))) (sets-eq ns (z ∷ row) 1 h)
+count-first ns (z ∷ row) h =
+    let next : 1 + length ns ≡ suc (length ns) = omega arith in
+    ap (λ (l : List ℤ). set l 0 (pos (length ns))) (sets-eq ns (z ∷ row) 1 h)
+    ∙ ap (λ (k : ℕ). pos (length ns) ∷ (ns ++ drop k (z ∷ row))) next
 
 -- one number more behind them
 pub one-more : (ns row : List ℤ) (i : ℕ) (z : ℤ) → set (sets row i ns) (i + length ns) z ≡ sets row i (ns ++ (z ∷ []))

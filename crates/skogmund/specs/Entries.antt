@@ -22,6 +22,10 @@ abbrev pub coded : Outcome → ℕ
 coded (refused number section place) = code number section place
 coded (read vs) = 0
 
+-- values at the start of a buffer, and behind them what was there before
+abbrev pub over : {A : Type 0} → List A → List A → List A
+over places vs = vs ++ drop (length vs) places
+
 -- ---- the listing
 
 -- there is room for the text and for its length
@@ -31,5 +35,5 @@ fits q text places = leb (length (listing q)) (length text) && ltb 0 (length pla
 -- the answer and the two buffers afterwards: 18 leaves both as they were
 pub record Listed (q text places : List ℕ) (answer : ℕ) (text′ places′ : List ℕ) : Type 0 where
   pub answers : answer ≡ cond (fits q text places) 0 (code 18 0 0)
-  pub writes : text′ ≡ cond (fits q text places) (listing q ++ drop (length (listing q)) text) text
+  pub writes : text′ ≡ cond (fits q text places) (over text (listing q)) text
   pub counts : places′ ≡ cond (fits q text places) (set places 0 (length (listing q))) places

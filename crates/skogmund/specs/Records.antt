@@ -1,12 +1,12 @@
 -- The record of a section for C: a count and numbers in a lent row of 64-bit places.
 -- Assumes nothing.
-use Prim.Native.Nat.{ℕ, _+_}
+use Prim.Native.Nat.{ℕ}
 use mathlib.Core.Path.{_≡_}
 use mathlib.Core.List.{List, [], _∷_, _++_}
 use mathlib.Core.Bool.{cond}
 use lib.Dec.{ltb, eqb}
 use lib.IntN.{ℤ, pos, negsuc}
-use lib.ListN.{length, drop}
+use lib.ListN.{length}
 use Rattle.octets.specs.Octets.{beAt}
 use Rattle.layout.specs.Fields.{Value, none, missing, is, which, plain}
 use Rattle.layout.specs.Outcomes.{Outcome, refused, read, firstOf, headReasons}
@@ -15,7 +15,7 @@ use Rattle.identification.specs.Section1.{outcome₁}
 use Rattle.grid.specs.Section3.{outcome₃}
 use Rattle.product.specs.Section4.{outcome₄}
 use Rattle.packing.specs.Section5.{outcome₅}
-use Rattle.skogmund.specs.Entries.{coded}
+use Rattle.skogmund.specs.Entries.{coded, over}
 
 -- INT64_MIN stands for missing
 abbrev pub missingNumber : ℤ
@@ -32,9 +32,9 @@ unfoldable pub numbersIn : List Value → List ℤ
 numbersIn [] = []
 numbersIn (v ∷ vs) = numbersOf v ++ numbersIn vs
 
--- their count, the numbers, and then the places as they were
+-- their count and the numbers, at the start of a row
 unfoldable pub counted : List ℤ → List ℤ → List ℤ
-counted numbers row = pos (length numbers) ∷ (numbers ++ drop (1 + length numbers) row)
+counted numbers row = over row (pos (length numbers) ∷ numbers)
 
 -- ---- the sections
 

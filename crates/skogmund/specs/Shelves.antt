@@ -2,10 +2,10 @@
 -- Assumes nothing.
 use Prim.Native.Nat.{ℕ}
 use mathlib.Core.Bool.{Bool, cond, _&&_}
-use mathlib.Core.List.{List, [], _∷_, _++_, map}
+use mathlib.Core.List.{List, [], _∷_, map}
 use lib.Dec.{eqb, ltb, leb}
 use lib.IntN.{ℤ, pos}
-use lib.ListN.{length, drop, replicate}
+use lib.ListN.{length, replicate}
 use Rattle.octets.specs.Octets.{part}
 use Rattle.card.specs.declared.Card.{Card}
 use Rattle.shelf.specs.declared.Slot.{Slot}
@@ -19,7 +19,7 @@ use Rattle.queue.specs.Records.{issueFrom}
 use Rattle.queue.specs.declared.QueueAnswer.{QueueAnswer}
 use Rattle.queue.specs.declared.QueueAnswer.the-variants.{Filed as filedAll, Refused as refusedAll}
 use Rattle.queue.specs.Queues.{queueFiled}
-use Rattle.skogmund.specs.Entries.{code, codeOf}
+use Rattle.skogmund.specs.Entries.{code, codeOf, over}
 
 -- 18: a buffer of another length, or one with too few places
 abbrev pub noRoom : ℕ
@@ -28,10 +28,6 @@ noRoom = code 18 0 0
 -- these are as many octets as a shelf has
 abbrev pub isShelf : List ℕ → Bool
 isShelf s = eqb (length s) 2624
-
--- values at the start of a buffer, and behind them what was there before
-abbrev pub over : {A : Type 0} → List A → List A → List A
-over places vs = vs ++ drop (length vs) places
 
 -- ---- a shelf alone
 
