@@ -17,7 +17,7 @@ use Rattle.filing.specs.declared.Issue.the-variants.{NotNamed}
 use Rattle.queue.specs.Queues.{recordIn, recordFiled, queueFiled}
 use Rattle.text.specs.Text.{written, startsWith}
 use Rattle.report.specs.Texts.{listing, explanation}
-use Rattle.skogmund.specs.Parts.{Stands}
+use Rattle.skogmund.specs.Parts.{PartInto}
 use Rattle.identification.proofs.read.Reads as read₁
 use Rattle.grid.proofs.read.Reads as read₃
 use Rattle.grid.proofs.list_span.Reads as list-span
@@ -116,5 +116,5 @@ report-whole-listing lent given r later e = e
 pub report-whole-explanation : (lent : _) (given : _) (r : _) (later : _) → whole-explanation.Learnt lent given r later → written (now (later .1 .0)) r ≡ startsWith (now (given .1 .0)) (explanation (now (given .0)))
 report-whole-explanation lent given r later e = e
 
-pub skogmund-tells-part : (lent : _) (given : _) (r : _) (later : _) → skogmund-part.Learnt lent given r later → Stands (given .0) (now (given .1 .0)) (given .1 .1 .0) (now (given .1 .1 .1 .0)) r (now (later .1 .1 .1 .0))
+pub skogmund-tells-part : (lent : _) (given : _) (r : _) (later : _) → skogmund-part.Learnt lent given r later → PartInto (given .0) (now (given .1 .0)) (given .1 .1 .0) (now (given .1 .1 .1 .0)) r (now (later .1 .1 .1 .0))
 skogmund-tells-part lent given r later e = e

@@ -33,7 +33,7 @@ use Rattle.shelf.specs.declared.Shelf.{Shelf}
 use Rattle.filing.specs.declared.Answer.{Answer}
 use Rattle.filing.specs.declared.Filed.{Filed}
 use Rattle.text.specs.Text.{Written, written}
-use Rattle.skogmund.specs.Parts.{Stands}
+use Rattle.skogmund.specs.Parts.{PartInto}
 
 -- ---- the readers, whose contracts say what an answer tells
 
@@ -86,5 +86,5 @@ pub one-text : (x : Written) (a b : ℕ) (after later : List ℕ) → written af
 one-text x a b after later p q = let e = p ∙ sym q in (ap (λ (x : Written). x .at) e, ap (λ (x : Written). x .octets) e)
 
 -- `skogmund_part`: the number that is answered and the lent places
-pub one-part : (part : ℕ) (s : List ℕ) (k : ℕ) (places : List ℕ) (a b : ℕ) (after later : List ℕ) → Stands part s k places a after → Stands part s k places b later → (a ≡ b) × (after ≡ later)
+pub one-part : (part : ℕ) (s : List ℕ) (k : ℕ) (places : List ℕ) (a b : ℕ) (after later : List ℕ) → PartInto part s k places a after → PartInto part s k places b later → (a ≡ b) × (after ≡ later)
 one-part part s k places a b after later p q = (p .answers ∙ sym (q .answers), p .writes ∙ sym (q .writes))

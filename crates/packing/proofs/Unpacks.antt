@@ -5,7 +5,7 @@ use mathlib.Core.Path.{_≡_, ap, sym}
 use mathlib.Core.List.{List}
 use lib.ListN.{length, getD, drop}
 use borrow.Author.Tests.{eq-eqb, ne-eqb}
-use Rattle.layout.specs.Fields.{Value, none, plain, placed, valuesOf, naturalIn}
+use Rattle.layout.specs.Fields.{Value, none, placed, valuesOf, naturalIn}
 use Rattle.layout.specs.Outcomes.{read, refusedBy, firstOf, andThen}
 use Rattle.layout.specs.declared.Refusal.{Refusal}
 use Rattle.packing.specs.Packed.{unpacked}

@@ -5,7 +5,7 @@ use native.Mathlib.Omega.{arith}
 use mathlib.Core.Path.{_≡_, refl, ap, _∙_}
 use mathlib.Core.Bool.{Bool, true, false, cond}
 use mathlib.Core.List.{List, [], _∷_}
-use lib.Dec.{ltb, eqb}
+use lib.Dec.{ltb}
 use lib.ListN.{length, drop, length-drop}
 use borrow.Author.Tests.{eq-eqb, ne-eqb, ltb-false}
 use Rattle.queue.specs.Numbers.{numberOf}
@@ -21,7 +21,7 @@ use Rattle.queue.proofs.Taken.{taken}
 -- ---- a record that is read
 
 -- its three numbers stand one behind the other, and then its body, which ends within the octets
-pub record Stands (s : List ℕ) (h : Head) : Type 0 where
+pub record PartInto (s : List ℕ) (h : Head) : Type 0 where
   pub stored : ℕ
   pub size : ℕ
   pub a : ℕ
@@ -35,13 +35,13 @@ pub record Stands (s : List ℕ) (h : Head) : Type 0 where
   pub ends : h .end ≡ a + b + c + size
   pub inside : a + b + c + size ≤ length s
 
-pub stands : (s : List ℕ) (h : Head) → recordOf s ≡ Whole h → Stands s h
+pub stands : (s : List ℕ) (h : Head) → recordOf s ≡ Whole h → PartInto s h
 unfolding recordOf
 stands s h e = by-first (numberOf s) refl e
   where
     by-room : (slot a stored b size c : ℕ) → numberOf s ≡ Found slot a → numberOf (drop a s) ≡ Found stored b → numberOf (drop (a + b) s) ≡ Found size c
         → (t : Bool) → ltb (length s) (a + b + c + size) ≡ t
-        → cond t Broken (Whole (record { slot = slot; issue = issueFrom stored; start = a + b + c; end = a + b + c + size })) ≡ Whole h → Stands s h
+        → cond t Broken (Whole (record { slot = slot; issue = issueFrom stored; start = a + b + c; end = a + b + c + size })) ≡ Whole h → PartInto s h
     by-room slot a stored b size c f g k true t e = let z : _≡_ {A = ℕ} 0 1 = cc in absurd (omega arith)
     by-room slot a stored b size c f g k false t e =
         let same : slot ≡ h .slot = cc in
@@ -61,17 +61,17 @@ stands s h e = by-first (numberOf s) refl e
         }
 
     by-third : (slot a stored b : ℕ) → numberOf s ≡ Found slot a → numberOf (drop a s) ≡ Found stored b → (r : Number) → numberOf (drop (a + b) s) ≡ r
-        → onward r (λ size c. bodied s slot stored (a + b + c) size) ≡ Whole h → Stands s h
+        → onward r (λ size c. bodied s slot stored (a + b + c) size) ≡ Whole h → PartInto s h
     by-third slot a stored b f g Malformed k e = let z : _≡_ {A = ℕ} 0 1 = cc in absurd (omega arith)
     by-third slot a stored b f g (Found size c) k e = by-room slot a stored b size c f g k (ltb (length s) (a + b + c + size)) refl e
 
     by-second : (slot a : ℕ) → numberOf s ≡ Found slot a → (r : Number) → numberOf (drop a s) ≡ r
-        → onward r (λ stored b. onward (numberOf (drop (a + b) s)) (λ size c. bodied s slot stored (a + b + c) size)) ≡ Whole h → Stands s h
+        → onward r (λ stored b. onward (numberOf (drop (a + b) s)) (λ size c. bodied s slot stored (a + b + c) size)) ≡ Whole h → PartInto s h
     by-second slot a f Malformed g e = let z : _≡_ {A = ℕ} 0 1 = cc in absurd (omega arith)
     by-second slot a f (Found stored b) g e = by-third slot a stored b f g (numberOf (drop (a + b) s)) refl e
 
     by-first : (r : Number) → numberOf s ≡ r
-        → onward r (λ slot a. onward (numberOf (drop a s)) (λ stored b. onward (numberOf (drop (a + b) s)) (λ size c. bodied s slot stored (a + b + c) size))) ≡ Whole h → Stands s h
+        → onward r (λ slot a. onward (numberOf (drop a s)) (λ stored b. onward (numberOf (drop (a + b) s)) (λ size c. bodied s slot stored (a + b + c) size))) ≡ Whole h → PartInto s h
     by-first Malformed f e = let z : _≡_ {A = ℕ} 0 1 = cc in absurd (omega arith)
     by-first (Found slot a) f e = by-second slot a f (numberOf (drop a s)) refl e
 

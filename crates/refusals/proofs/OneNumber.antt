@@ -1,14 +1,13 @@
 -- What a refusal as one number needs: its number is not 0, and there is room for its place.
 -- Assumes nothing.
 use Prim.Native.Nat.{ℕ, _≤_}
-use mathlib.Core.Path.{_≡_, refl, sym, subst, _∙_}
+use mathlib.Core.Path.{_≡_, sym, subst}
 use mathlib.Core.Bool.{Bool, true, false, not, cond, true≢false, _&&_}
 use mathlib.Core.List.{List, [], _∷_}
 use lib.Dec.{eqb}
-use borrow.Author.Tests.{eqb-true}
 use Rattle.layout.specs.Outcomes.{Outcome, refused, read}
 use Rattle.layout.proofs.Ranges.{both-hold}
-use Rattle.refusals.specs.Refusals.{Row, oneOf, numbersOf, Listed}
+use Rattle.refusals.specs.Refusals.{Row, oneOf, numbersOf}
 use Rattle.refusals.proofs.RefusalNumbers.{Refuses}
 
 abbrev pub Proper : Outcome → Type 0

@@ -19,8 +19,8 @@ use Rattle.queue.specs.declared.QueueAnswer.{QueueAnswer}
 use Rattle.queue.specs.declared.QueueAnswer.the-variants.{Filed as filedAll, Refused as refusedAll}
 use Rattle.queue.specs.Queues.{queueFiled}
 use Rattle.report.specs.Texts.{listing}
-use Rattle.skogmund.specs.Entries.{code, coded, over, fits, Listed}
-use Rattle.skogmund.specs.Parts.{partSpan, tellSpan, Stands}
+use Rattle.skogmund.specs.Entries.{code, coded, over, fits, ListInto}
+use Rattle.skogmund.specs.Parts.{partSpan, tellSpan, PartInto}
 use Rattle.skogmund.specs.Records.{sectionOutcome, intoRow, valuesAfter, ReadInto}
 use Rattle.skogmund.specs.Shelves.{noRoom, isShelf, done, emptied, joined, Filed, filed, keptIn, fieldKept, filedField, queueKept, filedQueue, slotValues, shown, slotShown}
 
@@ -94,14 +94,14 @@ read-leaves section s row answer row′ p h = by (intoRow (sectionOutcome sectio
     by (refused number section place) a w = w
     by (read vs) a w = absurd (h a)
 
-pub part-leaves : (part : ℕ) (s : List ℕ) (k : ℕ) (places : List ℕ) (answer : ℕ) (places′ : List ℕ) → Stands part s k places answer places′ → (answer ≡ 0 → ⊥) → places′ ≡ places
+pub part-leaves : (part : ℕ) (s : List ℕ) (k : ℕ) (places : List ℕ) (answer : ℕ) (places′ : List ℕ) → PartInto part s k places answer places′ → (answer ≡ 0 → ⊥) → places′ ≡ places
 part-leaves part s k places answer places′ p h = by (ltb (length places) 2) (p .answers) (p .writes)
   where
     by : (t : Bool) → answer ≡ cond t (code 18 0 0) 0 → places′ ≡ cond t places (tellSpan (partSpan part s k) places) → places′ ≡ places
     by true a w = w
     by false a w = absurd (h a)
 
-pub list-leaves : (q text places : List ℕ) (answer : ℕ) (text′ places′ : List ℕ) → Listed q text places answer text′ places′ → (answer ≡ 0 → ⊥) → (text′ ≡ text) × (places′ ≡ places)
+pub list-leaves : (q text places : List ℕ) (answer : ℕ) (text′ places′ : List ℕ) → ListInto q text places answer text′ places′ → (answer ≡ 0 → ⊥) → (text′ ≡ text) × (places′ ≡ places)
 list-leaves q text places answer text′ places′ p h = by (fits q text places) (p .answers) (p .writes) (p .counts)
   where
     by : (t : Bool) → answer ≡ cond t 0 (code 18 0 0) → text′ ≡ cond t (over text (listing q)) text → places′ ≡ cond t (set places 0 (length (listing q))) places → (text′ ≡ text) × (places′ ≡ places)

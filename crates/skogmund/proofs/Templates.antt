@@ -9,11 +9,11 @@ use lib.IntN.{ℤ}
 use lib.ListN.{length}
 use Rattle.octets.specs.Octets.{beAt}
 use Rattle.layout.specs.Fields.{Value, is, plain}
-use Rattle.layout.specs.Outcomes.{read, headReasons}
+use Rattle.layout.specs.Outcomes.{headReasons}
 use Rattle.layout.specs.Time.{time}
 use Rattle.layout.proofs.Outcomes.{read-none}
 use Rattle.text.specs.Text.{ascii}
-use Rattle.identification.specs.Section1.{fields₁, origin, statusAndType, total, values₁, realYearAt, outcome₁}
+use Rattle.identification.specs.Section1.{fields₁, origin, statusAndType, values₁, realYearAt, outcome₁}
 use Rattle.identification.specs.Accepted.{Follows₁}
 use Rattle.identification.specs.declared.Template.{Template as Template₁}
 use Rattle.identification.specs.declared.Template.the-variants.{None as noTemplate, Calendar, Offset, CalendarAndOffset}
@@ -23,7 +23,7 @@ use Rattle.grid.specs.declared.Template.{Template as Template₃}
 use Rattle.grid.specs.declared.Template.the-variants.{LatLon, Rotated, Stretched, StretchedAndRotated}
 use Rattle.grid.proofs.AcceptedExactlyWhen.{accepted-follows as follows₃, named}
 use Rattle.product.specs.Blocks.{head, parameter, process, forecast, scaled, surface, common, ensemble, cluster, probability, aerosol, interval}
-use Rattle.product.specs.Section4.{fields₄, front, ahead, behind, timeRanges, lists, values₄, templateOf, outcome₄}
+use Rattle.product.specs.Section4.{fields₄, front, ahead, behind, timeRanges, lists, templateOf, outcome₄}
 use Rattle.product.specs.declared.PartKind.{PartKind}
 use Rattle.product.specs.declared.PartKind.the-variants.{None as noPart, Ensemble, Cluster, Probability, Aerosol}
 use Rattle.product.specs.declared.Template.{Template as Template₄}

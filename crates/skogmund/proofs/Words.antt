@@ -15,7 +15,7 @@ use mir.Syntax.{w64}
 use mir.Val.{toZ}
 use mir.ValLaws.{toZ-pos}
 use Rattle.octets.specs.Octets.{beAt, allOnes}
-use Rattle.layout.specs.Fields.{Value, none, missing, is, which, Meaning, unsigned, signed, orMissing, means, Field, held, said, shown, placed, valuesOf}
+use Rattle.layout.specs.Fields.{none, missing, is, which, Meaning, unsigned, signed, orMissing, means, Field, held, said, shown, placed, valuesOf}
 use Rattle.layout.proofs.Ranges.{both-hold}
 use Rattle.skogmund.specs.Records.{numbersOf, numbersIn, counted}
 use Rattle.skogmund.specs.Letters.{Kind, kindOf, numberOf, numbersBy}

@@ -33,7 +33,7 @@ abbrev pub fits : List ℕ → List ℕ → List ℕ → Bool
 fits q text places = leb (length (listing q)) (length text) && ltb 0 (length places)
 
 -- the answer and the two buffers afterwards: 18 leaves both as they were
-pub record Listed (q text places : List ℕ) (answer : ℕ) (text′ places′ : List ℕ) : Type 0 where
+pub record ListInto (q text places : List ℕ) (answer : ℕ) (text′ places′ : List ℕ) : Type 0 where
   pub answers : answer ≡ cond (fits q text places) 0 (code 18 0 0)
   pub writes : text′ ≡ cond (fits q text places) (over text (listing q)) text
   pub counts : places′ ≡ cond (fits q text places) (set places 0 (length (listing q))) places

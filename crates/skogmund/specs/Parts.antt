@@ -30,6 +30,6 @@ abbrev pub tellSpan : Span → List ℕ → List ℕ
 tellSpan x places = set (set places 0 (firstOctet x)) 1 (x .length)
 
 -- the answer and the places afterwards: 18 where there are fewer than two, which then stay
-pub record Stands (part : ℕ) (s : List ℕ) (k : ℕ) (places : List ℕ) (answer : ℕ) (places′ : List ℕ) : Type 0 where
+pub record PartInto (part : ℕ) (s : List ℕ) (k : ℕ) (places : List ℕ) (answer : ℕ) (places′ : List ℕ) : Type 0 where
   pub answers : answer ≡ cond (ltb (length places) 2) (code 18 0 0) 0
   pub writes : places′ ≡ cond (ltb (length places) 2) places (tellSpan (partSpan part s k) places)

@@ -3,7 +3,7 @@
 ghost use mathlib.Core.Path.{_≡_};
 ghost use Prim.Native.Nat.{_≤_};
 ghost use Rattle.packing.specs.Unpacking.{unpackOutcome, rowAfter};
-ghost use Rattle.skogmund.specs.Entries.{codeOf, coded, Listed};
+ghost use Rattle.skogmund.specs.Entries.{codeOf, coded, ListInto};
 use layout::Refusal;
 use packing::Unpacked;
 
@@ -37,7 +37,7 @@ pub(crate) fn code(x: Refusal) -> u64
 // What the program `listing` prints for this queue, at the start of the text buffer, and its length in the first place of `length`.
 #[no_mangle]
 pub extern "C" fn skogmund_list(queue: &[u8], text: &mut [u8], length: &mut [u64]) -> u64
-    ensures { λ r. ⌜ Listed (now (queue .entry)) (now (text .entry)) (now (length .entry)) r (now (text .exit)) (now (length .exit)) ⌝ }
+    ensures { λ r. ⌜ ListInto (now (queue .entry)) (now (text .entry)) (now (length .entry)) r (now (text .exit)) (now (length .exit)) ⌝ }
 {
     let mut room = report::listing_buffer();
     let end = report::whole_listing(queue, &mut room);

@@ -29,7 +29,7 @@ use denote.Builtin.{u8, usize}
 use denote.Ref.{RefT, MutRef, ptr-vals, mut-tells, now}
 use denote.Signature.{plain}
 use denote.Slice.{ShrSlice, slice-vals, shr-slice-tells, shr-slice-lawful, shr-slice-copy}
-use denote.Steps.{only, opens, closes, owned, peeks, heard, nothing}
+use denote.Steps.{only, opens, closes, owned, peeks, heard}
 use denote.Struct.Struct.{twices}
 use denote.Struct.Steps.{spelt}
 use denote.Struct.Laws as LL

@@ -2,31 +2,21 @@
 -- Assumes nothing.
 use borrow.Author.Needs.{needs}
 use Prim.Native.Nat.{ℕ}
-use mathlib.Core.Path.{ap, sym, _∙_}
-use denote.Ref.{now}
-use Rattle.grid.specs.Section3.{templateNumbered}
-use Rattle.grid.specs.declared.Template.the-variants.{LatLon, Rotated, Stretched, StretchedAndRotated}
-use Rattle.skogmund.proofs.Templates.{row₃, last₃}
+use mathlib.Core.Path.{_≡_, ap, sym, _∙_}
+use mathlib.Core.List.{List}
+use lib.IntN.{ℤ}
+use Rattle.octets.specs.Octets.{beAt}
+use Rattle.grid.specs.Section3.{templateNumbered, outcome₃}
+use Rattle.grid.specs.declared.Template.the-variants.{StretchedAndRotated}
+use Rattle.skogmund.specs.Letters.{numbersBy}
+use Rattle.skogmund.specs.Records.{counted, PutsRecord}
+use Rattle.skogmund.proofs.Templates.{word₃, row₃, last₃}
 use Rattle.skogmund.proofs.record.put_grid.Statement.{statement}
 use Rattle.skogmund.proofs.record.put_grid.Tie as tie
 
-returns : tie.Need-returns
-unfolding templateNumbered
-returns c =
-    let m = c .before .before .before .before in
-    row₃ _ LatLon _ _ (ap templateNumbered (sym (m .before .u16-at .ensures) ∙ m .match .keys1)) (c .before .put .ensures)
-
-returns-2 : tie.Need-returns-2
-unfolding templateNumbered
-returns-2 c =
-    let m = c .before .before .before .before in
-    row₃ _ Rotated _ _ (ap templateNumbered (sym (m .before .u16-at .ensures) ∙ m .match .keys2)) (c .before .put2 .ensures)
-
-returns-3 : tie.Need-returns-3
-unfolding templateNumbered
-returns-3 c =
-    let m = c .before .before .before .before in
-    row₃ _ Stretched _ _ (ap templateNumbered (sym (m .before .u16-at .ensures) ∙ m .match .keys3)) (c .before .put3 .ensures)
+-- an arm's row is that of its number's template
+arm : (s : List ℕ) (row row′ : List ℤ) (key : ℕ) {number : ℕ} → number ≡ beAt s 13 2 → number ≡ key → row′ ≡ counted (numbersBy (word₃ (templateNumbered key)) 1 s) row → PutsRecord (outcome₃ s) row row′
+arm s row row′ key e k p = row₃ s (templateNumbered key) row row′ (ap templateNumbered (sym e ∙ k)) p
 
 returns-4 : tie.Need-returns-4
 returns-4 c =
@@ -35,6 +25,7 @@ returns-4 c =
     row₃ _ StretchedAndRotated _ _ (ap templateNumbered (sym (m .before .u16-at .ensures)) ∙ last₃ _ (other .0 .0 .1) (other .0 .1) (other .1)) (c .before .put4 .ensures)
 
 pub put-grid-spec : {M : Type 1} → statement M
+unfolding templateNumbered
 put-grid-spec =
     tie.close
     (tie.spec
@@ -48,10 +39,10 @@ put-grid-spec =
     (λ c. search needs)
     (λ c κs. search needs)
     (λ c. search needs)
-    returns
+    (λ c. arm _ _ _ 0 (c .before .before .before .before .before .u16-at .ensures) (c .before .before .before .before .match .keys1) (c .before .put .ensures))
     (λ c. search needs)
-    returns-2
+    (λ c. arm _ _ _ 1 (c .before .before .before .before .before .u16-at .ensures) (c .before .before .before .before .match .keys2) (c .before .put2 .ensures))
     (λ c. search needs)
-    returns-3
+    (λ c. arm _ _ _ 2 (c .before .before .before .before .before .u16-at .ensures) (c .before .before .before .before .match .keys3) (c .before .put3 .ensures))
     (λ c. search needs)
     returns-4)

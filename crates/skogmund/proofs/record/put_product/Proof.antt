@@ -2,16 +2,15 @@
 -- Assumes nothing.
 use borrow.Author.Needs.{needs}
 use borrow.Author.Tests.{ne-eqb}
-use mathlib.Core.Path.{_≡_, refl, ap, sym, _∙_}
+use mathlib.Core.Path.{_≡_, ap, sym, _∙_}
 use mathlib.Core.Bool.{Bool, true, false, cond}
 use mathlib.Core.List.{List}
 use Prim.Native.Nat.{ℕ}
 use lib.Dec.{eqb}
 use lib.IntN.{ℤ}
 use Rattle.product.specs.Section4.{templateOf, outcome₄}
-use Rattle.product.specs.declared.Template.{Template}
 use Rattle.product.specs.declared.Template.the-variants.{NotListed, Listed}
-use Rattle.product.specs.declared.PartKind.the-variants.{None as noPart, Ensemble, Cluster, Probability, Aerosol}
+use Rattle.product.specs.declared.PartKind.the-variants.{Aerosol}
 use Rattle.octets.specs.Octets.{beAt}
 use Rattle.skogmund.specs.Letters.{numbersBy}
 use Rattle.skogmund.specs.Records.{counted, PutsRecord}
@@ -24,53 +23,9 @@ aerosol : (t : Bool) (s : List ℕ) (row row′ : List ℤ) → templateOf (beAt
 aerosol true s row row′ by e = row₄ s (Listed Aerosol true) row row′ by e
 aerosol false s row row′ by e = row₄ s NotListed row row′ by e
 
-returns : tie.Need-returns
-unfolding templateOf
-returns c =
-    let m = c .before .before .before .before in
-    row₄ _ (Listed noPart false) _ _ (ap templateOf (sym (m .before .u16-at .ensures) ∙ m .match .keys1)) (c .before .put .ensures)
-
-returns-2 : tie.Need-returns-2
-unfolding templateOf
-returns-2 c =
-    let m = c .before .before .before .before in
-    row₄ _ (Listed Ensemble false) _ _ (ap templateOf (sym (m .before .u16-at .ensures) ∙ m .match .keys2)) (c .before .put2 .ensures)
-
-returns-3 : tie.Need-returns-3
-unfolding templateOf
-returns-3 c =
-    let m = c .before .before .before .before in
-    row₄ _ (Listed Cluster false) _ _ (ap templateOf (sym (m .before .u16-at .ensures) ∙ m .match .keys3)) (c .before .put3 .ensures)
-
-returns-4 : tie.Need-returns-4
-unfolding templateOf
-returns-4 c =
-    let m = c .before .before .before .before in
-    row₄ _ (Listed Probability false) _ _ (ap templateOf (sym (m .before .u16-at .ensures) ∙ m .match .keys4)) (c .before .put4 .ensures)
-
-returns-5 : tie.Need-returns-5
-unfolding templateOf
-returns-5 c =
-    let m = c .before .before .before .before in
-    row₄ _ (Listed noPart true) _ _ (ap templateOf (sym (m .before .u16-at .ensures) ∙ m .match .keys5)) (c .before .put5 .ensures)
-
-returns-6 : tie.Need-returns-6
-unfolding templateOf
-returns-6 c =
-    let m = c .before .before .before .before in
-    row₄ _ (Listed Probability true) _ _ (ap templateOf (sym (m .before .u16-at .ensures) ∙ m .match .keys6)) (c .before .put6 .ensures)
-
-returns-7 : tie.Need-returns-7
-unfolding templateOf
-returns-7 c =
-    let m = c .before .before .before .before in
-    row₄ _ (Listed Ensemble true) _ _ (ap templateOf (sym (m .before .u16-at .ensures) ∙ m .match .keys7)) (c .before .put7 .ensures)
-
-returns-8 : tie.Need-returns-8
-unfolding templateOf
-returns-8 c =
-    let m = c .before .before .before .before in
-    row₄ _ (Listed Cluster true) _ _ (ap templateOf (sym (m .before .u16-at .ensures) ∙ m .match .keys8)) (c .before .put8 .ensures)
+-- an arm's row is that of its number's template
+arm : (s : List ℕ) (row row′ : List ℤ) (key : ℕ) {number : ℕ} → number ≡ beAt s 8 2 → number ≡ key → row′ ≡ counted (numbersBy (word₄ (templateOf key)) 1 s) row → PutsRecord (outcome₄ s) row row′
+arm s row row′ key e k p = row₄ s (templateOf key) row row′ (ap templateOf (sym e ∙ k)) p
 
 returns-9 : tie.Need-returns-9
 unfolding templateOf
@@ -91,6 +46,7 @@ returns-9 c =
     aerosol (eqb (m .before .u16-at .result) 46) _ _ _ (ap templateOf number ∙ by) (c .before .put9 .ensures)
 
 pub put-product-spec : {M : Type 1} → statement M
+unfolding templateOf
 put-product-spec =
     tie.close
     (tie.spec
@@ -114,20 +70,20 @@ put-product-spec =
     (λ c. search needs)
     (λ c κs. search needs)
     (λ c. search needs)
-    returns
+    (λ c. arm _ _ _ 0 (c .before .before .before .before .before .u16-at .ensures) (c .before .before .before .before .match .keys1) (c .before .put .ensures))
     (λ c. search needs)
-    returns-2
+    (λ c. arm _ _ _ 1 (c .before .before .before .before .before .u16-at .ensures) (c .before .before .before .before .match .keys2) (c .before .put2 .ensures))
     (λ c. search needs)
-    returns-3
+    (λ c. arm _ _ _ 4 (c .before .before .before .before .before .u16-at .ensures) (c .before .before .before .before .match .keys3) (c .before .put3 .ensures))
     (λ c. search needs)
-    returns-4
+    (λ c. arm _ _ _ 5 (c .before .before .before .before .before .u16-at .ensures) (c .before .before .before .before .match .keys4) (c .before .put4 .ensures))
     (λ c. search needs)
-    returns-5
+    (λ c. arm _ _ _ 8 (c .before .before .before .before .before .u16-at .ensures) (c .before .before .before .before .match .keys5) (c .before .put5 .ensures))
     (λ c. search needs)
-    returns-6
+    (λ c. arm _ _ _ 9 (c .before .before .before .before .before .u16-at .ensures) (c .before .before .before .before .match .keys6) (c .before .put6 .ensures))
     (λ c. search needs)
-    returns-7
+    (λ c. arm _ _ _ 11 (c .before .before .before .before .before .u16-at .ensures) (c .before .before .before .before .match .keys7) (c .before .put7 .ensures))
     (λ c. search needs)
-    returns-8
+    (λ c. arm _ _ _ 14 (c .before .before .before .before .before .u16-at .ensures) (c .before .before .before .before .match .keys8) (c .before .put8 .ensures))
     (λ c. search needs)
     returns-9)

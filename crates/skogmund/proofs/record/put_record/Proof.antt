@@ -9,8 +9,7 @@ use mathlib.Core.List.{List}
 use native.Mathlib.Omega.{arith}
 use lib.Dec.{eqb}
 use lib.IntN.{ℤ}
-use Rattle.layout.specs.Fields.{Value}
-use Rattle.layout.specs.Outcomes.{Outcome, refused, read}
+use Rattle.layout.specs.Outcomes.{refused}
 use Rattle.skogmund.specs.Records.{sectionOutcome, outcome₇alone, PutsRecord}
 use Rattle.skogmund.proofs.Templates.{row₅, row₇}
 use Rattle.skogmund.proofs.record.put_record.Statement.{statement}
