@@ -12,8 +12,10 @@ int main(void) {
         printf("N %" PRId64 " E %" PRId64 " bits %" PRId64 "\n", v[3], v[6], v[8]);
     size_t n = fread(queue, 1, sizeof queue, stdin);
     uint64_t refusal = skogmund_file_queue(shelf, sizeof shelf, queue, n, counts, 3);
-    if (refusal != 0)
-        return printf("refused %" PRIu64 "\n", refusal >> 40) < 0;
+    if (refusal != 0) {
+        printf("refused %" PRIu64 "\n", refusal >> 40);
+        return 1;
+    }
     printf("kept %" PRIu64 " passed %" PRIu64 " refused %" PRIu64 "\n", counts[0], counts[1], counts[2]);
     if (skogmund_slot(shelf, sizeof shelf, 7, v, SKOGMUND_VALUES) == 0 && v[0] != 0)
         printf("slot 7: %" PRId64 "-%02" PRId64 "-%02" PRId64 ", issue %" PRId64 "\n", v[1], v[2], v[3], v[7]);

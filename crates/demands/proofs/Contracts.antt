@@ -18,6 +18,7 @@ use Rattle.queue.specs.Queues.{recordIn, recordFiled, queueFiled}
 use Rattle.text.specs.Text.{written, startsWith}
 use Rattle.report.specs.Texts.{listing, explanation}
 use Rattle.skogmund.specs.Parts.{PartInto}
+use Rattle.skogmund.specs.Records.{ReadInto}
 use Rattle.identification.proofs.read.Reads as read₁
 use Rattle.grid.proofs.read.Reads as read₃
 use Rattle.grid.proofs.list_span.Reads as list-span
@@ -43,6 +44,7 @@ use Rattle.queue.proofs.file.Reads as file-queue
 use Rattle.report.proofs.whole_listing.Reads as whole-listing
 use Rattle.report.proofs.whole_explanation.Reads as whole-explanation
 use Rattle.skogmund.proofs.part.skogmund_part.Reads as skogmund-part
+use Rattle.skogmund.proofs.record.skogmund_read.Reads as skogmund-read
 
 pub identification-read : (lent : _) (given : _) (r : _) (later : _) → read₁.Learnt lent given r later → one.told r ≡ one.outcome₁ (now (given .0))
 identification-read lent given r later e = e
@@ -118,3 +120,6 @@ report-whole-explanation lent given r later e = e
 
 pub skogmund-tells-part : (lent : _) (given : _) (r : _) (later : _) → skogmund-part.Learnt lent given r later → PartInto (given .0) (now (given .1 .0)) (given .1 .1 .0) (now (given .1 .1 .1 .0)) r (now (later .1 .1 .1 .0))
 skogmund-tells-part lent given r later e = e
+
+pub skogmund-tells-record : (lent : _) (given : _) (r : _) (later : _) → skogmund-read.Learnt lent given r later → ReadInto (given .0) (now (given .1 .0)) (now (given .1 .1 .0)) r (now (later .1 .1 .0))
+skogmund-tells-record lent given r later e = e

@@ -3,6 +3,10 @@
 -- what it says, and what a program's answer says (`told`). A contract of a reader is `told a ≡ outcome… s` (`Contracts.antt`), so a theorem
 -- with that premise is about every answer `a` that the contract allows.
 -- Assumes nothing.
+
+-- "What is read out is what those octets mean.", of C: it is told the record's numbers, exactly where the section is accepted and there is room.
+pub use Rattle.skogmund.proofs.RecordTold.{told-exactly-when, record-told}
+-- The rest are the theorems of this file.
 use Prim.Native.Nat.{ℕ, zero, suc, _+_, _*_, _<_, _≤_}
 use native.Mathlib.Omega.{arith}
 use mathlib.Core.Path.{_≡_, refl, sym, ap, subst, _∙_}

@@ -3,3 +3,4 @@ pub mod Templates
 pub mod PartsWithin
 pub mod Kept
 pub mod RefusalsLeaveAll
+pub mod RecordTold

@@ -5,41 +5,18 @@ use borrow.Author.Tests.{lt-ltb, le-ltb}
 use Prim.Native.Nat.{ℕ, _≤_, _<_}
 use native.Mathlib.Omega.{arith}
 use mathlib.Core.Path.{_≡_, refl, ap, sym, _∙_}
-use mathlib.Core.Bool.{Bool, true, false, cond}
-use mathlib.Core.List.{List, [], _∷_}
-use lib.Dec.{eqb}
+use mathlib.Core.List.{List}
 use lib.IntN.{ℤ}
 use lib.ListN.{length}
 use denote.Ref.{now}
-use Rattle.octets.specs.Octets.{beAt}
-use Rattle.layout.specs.Fields.{Value, plain}
-use Rattle.layout.specs.Outcomes.{Outcome, refused, read, firstOf, headReasons}
-use Rattle.identification.specs.Section1.{outcome₁}
-use Rattle.grid.specs.Section3.{outcome₃}
-use Rattle.product.specs.Section4.{outcome₄}
-use Rattle.packing.specs.Section5.{outcome₅}
-use Rattle.refusals.specs.Refusals.{table₁, table₃, table₄, table₅, table₇}
-use Rattle.refusals.proofs.RefusalNumbers.{refuses₁, refuses₃, refuses₄, refuses₅, head-refuses}
-use Rattle.refusals.proofs.OneNumber.{Proper, proper}
+use Rattle.layout.specs.Fields.{Value}
+use Rattle.layout.specs.Outcomes.{Outcome, refused, read}
+use Rattle.refusals.proofs.OneNumber.{Proper}
 use Rattle.skogmund.specs.Entries.{codeOf, coded}
-use Rattle.skogmund.specs.Records.{sectionOutcome, outcome₇alone, refusalOf, intoRow, valuesAfter, counted, numbersIn}
+use Rattle.skogmund.specs.Records.{sectionOutcome, refusalOf, intoRow, valuesAfter, counted, numbersIn}
+use Rattle.skogmund.proofs.RecordTold.{all-proper, accepting}
 use Rattle.skogmund.proofs.record.skogmund_read.Statement.{statement}
 use Rattle.skogmund.proofs.record.skogmund_read.Tie as tie
-
--- each section's refusal has a number, and a place that has room
-all-proper : (section : ℕ) (s : List ℕ) → Proper (sectionOutcome section s)
-unfolding sectionOutcome outcome₇alone
-all-proper section s =
-    let seven = read (plain (beAt s 1 4) ∷ plain (beAt s 5 1) ∷ []) in
-    by (eqb section 1) _ _ (proper table₁ (outcome₁ s) refl (refuses₁ s))
-    (by (eqb section 3) _ _ (proper table₃ (outcome₃ s) refl (refuses₃ s))
-    (by (eqb section 4) _ _ (proper table₄ (outcome₄ s) refl (refuses₄ s))
-    (by (eqb section 5) _ _ (proper table₅ (outcome₅ s) refl (refuses₅ s))
-    (by (eqb section 7) _ (refused 4 section 0) (proper table₇ (firstOf 7 (headReasons 7 s) seven) refl (head-refuses table₇ 7 s seven refl tt)) ((λ e. omega (arith, e)), omega arith)))))
-  where
-    by : (t : Bool) (a b : Outcome) → Proper a → Proper b → Proper (cond t a b)
-    by true a b p q = p
-    by false a b p q = q
 
 within : (o : Outcome) → Proper o → refusalOf o .place ≤ 65536
 within (refused number section place) p = p .1
@@ -54,11 +31,6 @@ refusing : (o : Outcome) (row : List ℤ) → (coded o ≡ 0 → ⊥) → (coded
 unfolding intoRow valuesAfter
 refusing (refused number section place) row h = (refl, refl)
 refusing (read vs) row h = absurd (h refl)
-
--- and 0 is none
-accepting : (o : Outcome) → Proper o → coded o ≡ 0 → (vs : List Value) × (o ≡ read vs)
-accepting (refused number section place) p e = absurd (p .0 (omega (arith, e)))
-accepting (read vs) p e = (vs, refl)
 
 no-room : (o : Outcome) (row : List ℤ) (vs : List Value) → o ≡ read vs → length row < 64 → (19791209299968 ≡ coded (intoRow o row)) × (row ≡ valuesAfter (intoRow o row) row)
 unfolding intoRow valuesAfter
