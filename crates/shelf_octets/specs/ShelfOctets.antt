@@ -1,6 +1,6 @@
 -- A shelf as 2,624 octets, 64 slots of 41, with which a trailer's shelf is stored or sent to another trailer. A slot's octet 1 is 0 if it is
 -- empty, and then all of it is; else 1. Octets 2-5 are the real year + 2^31, 6 to 10 month, day, hour, minute, second, 11-14 the issue,
--- 15-41 octets 8-34 of section 4. Whatever octets there are read as a shelf, and one that is not there reads as 0.
+-- 15-41 octets 8-34 of section 4. Whatever octets there are read as a shelf, and an octet that is not there reads as 0.
 -- Assumes nothing.
 use Prim.Native.Nat.{ℕ, zero, suc, _+_, _^_, _<_}
 use mathlib.Core.Path.{_≡_}

@@ -1,4 +1,5 @@
--- A template's fields as a word, a letter for each field that has octets: how many octets, and how they are read.
+-- A template's fields as a word, a letter for each field that has octets: how many octets, and how they are read. Only the contracts of
+-- private functions cite this; what C is told is in Records.
 -- Assumes nothing.
 use Prim.Native.Nat.{ℕ, _+_}
 use mathlib.Core.List.{List, [], _∷_}
@@ -31,7 +32,7 @@ kindOf letter =
     (cond (eqb letter 82) (kind 2 (orMissing unsigned))
     (kind 4 (orMissing unsigned))))))))))
 
--- the number that stands for a value
+-- the number that stands for a value; octets never say `none` or `which`
 abbrev pub numberOf : Value → ℤ
 numberOf none = pos 0
 numberOf missing = missingNumber

@@ -52,6 +52,8 @@ sectionOutcome section s =
     (cond (eqb section 7) (outcome₇alone s)
     (refused 4 section 0)))))
 
+-- ---- for the contracts of private functions
+
 -- where a section is accepted, its record stands in the row
 abbrev pub PutsRecord : Outcome → List ℤ → List ℤ → Type 0
 PutsRecord o row row′ = (vs : List Value) → o ≡ read vs → row′ ≡ counted (numbersIn vs) row

@@ -96,6 +96,7 @@ fn put_identification(s: &[u8], values: &mut [i64])
             octets::real_year(year, octets::u16_at(s, 24)) as i64,
             values,
         ),
+        // 1.2, since no other number is accepted
         _ => put_with(
             s,
             b"4122111b111111121b",
@@ -113,6 +114,7 @@ fn put_grid(s: &[u8], values: &mut [i64])
         0 => put(s, b"41141121QTQTQTTT4Tdd1ddTT1", values),
         1 => put(s, b"41141121QTQTQTTT4Tdd1ddTT1dd4", values),
         2 => put(s, b"41141121QTQTQTTT4Tdd1ddTT1dd4", values),
+        // 3.3, since no other number is accepted
         _ => put(s, b"41141121QTQTQTTT4Tdd1ddTT1dd4dd4", values),
     }
 }
@@ -130,6 +132,7 @@ fn put_product(s: &[u8], values: &mut [i64])
         9 => put(s, b"412211111R11d1AD1AD111ADAD21111114", values),
         11 => put(s, b"412211111R11d1AD1AD11121111114", values),
         14 => put(s, b"412211111R11d1AD1AD11111114441141421111114", values),
+        // 4.46, since no other number is accepted
         _ => put(s, b"41221121ADAD111R11d1AD1AD21111114", values),
     }
 }

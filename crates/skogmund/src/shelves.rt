@@ -195,6 +195,7 @@ fn show_product(values: &mut [i64], product: [u8; 27])
     }
 }
 
+// A cast in a store to a slice of signed numbers is proved here once.
 fn value_of(octet: u8) -> i64
     ensures { λ r. ⌜ r ≡ pos octet ⌝ }
 {
