@@ -15,6 +15,7 @@ mod tally;
 mod unpacking;
 
 use skogmund_tests::generate::Rng;
+use std::io::Write;
 use std::time::Instant;
 use tally::Tally;
 
@@ -51,6 +52,7 @@ struct Run {
     seed: u64,
     from: u64,
     count: u64,
+    start: Instant,
 }
 
 impl Run {
@@ -59,34 +61,45 @@ impl Run {
             seed: setting("SKOGMUND_SEED", DEFAULT_SEED),
             from: setting("SKOGMUND_FROM", 0),
             count: setting("SKOGMUND_COUNT", DEFAULT_COUNT),
+            start: Instant::now(),
         }
     }
 
-    /// Shows the inputs that make a difference, up to so many, and fails if there are any.
-    fn compare(&self, what: &str, mut one: impl FnMut(&mut Rng) -> Result<(), String>) {
-        let Run { seed, from, count } = *self;
-        let start = Instant::now();
-        let differences = (from..from + count)
+    /// Shows the inputs that make a difference, up to so many, and gives their number.
+    fn differences(&self, mut one: impl FnMut(&mut Rng) -> Result<(), String>) -> usize {
+        let Run { seed, from, .. } = *self;
+        (from..from + self.count)
             .filter_map(|input| {
                 let said = one(&mut Rng::of_input(seed, input)).err()?;
                 println!("SKOGMUND_SEED={seed} SKOGMUND_FROM={input} SKOGMUND_COUNT=1: {said}");
                 Some(input)
             })
             .take(MOST_DIFFERENCES)
-            .count();
-        let seconds = start.elapsed().as_secs_f64();
-        println!("seed {seed}: {count} {what} from {from} on, {seconds:.1} s");
-        assert_eq!(differences, 0, "the library differs from what is owed");
+            .count()
     }
+
+    /// One line on standard error itself, which is shown of a test that passes too; what `println!` prints is not.
+    fn say(&self, what: &str) {
+        let Run { seed, from, .. } = *self;
+        let (count, seconds) = (self.count, self.start.elapsed().as_secs_f64());
+        let line = format!("seed {seed}: {count} {what} from {from} on, {seconds:.1} s\n");
+        // In one piece, since another test may write beside it.
+        std::io::stderr().write_all(line.as_bytes()).ok();
+    }
+}
+
+fn assert_none(differences: usize) {
+    assert_eq!(differences, 0, "the library differs from what is owed");
 }
 
 #[test]
 fn library_and_reference_agree() {
     let run = Run::set();
     let mut tally = Tally::default();
-    run.compare("inputs", |rng| one_input(rng, &mut tally));
+    let differences = run.differences(|rng| one_input(rng, &mut tally));
     tally.print();
-    println!("{} calls", tally.calls);
+    run.say(&format!("inputs ({} calls)", tally.calls));
+    assert_none(differences);
     if run.count >= ENOUGH {
         let missing = tally.missing();
         assert!(missing.is_empty(), "never came up: {missing:?}");
@@ -95,10 +108,9 @@ fn library_and_reference_agree() {
 
 #[test]
 fn every_slot_holds_the_greatest_card() {
-    let all = Run::set();
-    let run = Run {
-        count: all.count.div_ceil(INPUTS_TO_A_HISTORY),
-        ..all
-    };
-    run.compare("histories", histories::one_history);
+    let mut run = Run::set();
+    run.count = run.count.div_ceil(INPUTS_TO_A_HISTORY);
+    let differences = run.differences(histories::one_history);
+    run.say("histories");
+    assert_none(differences);
 }
