@@ -3,7 +3,8 @@ use skogmund_tests::entries::Answer;
 use skogmund_tests::generate::damage::damage;
 use skogmund_tests::generate::Rng;
 use std::fmt::Debug;
-use std::ops::Range;
+use std::hint::black_box;
+use std::ops::{Deref, Range};
 
 /// A lent buffer with a pattern in it and guards on both sides.
 pub struct Lent<T> {
@@ -125,9 +126,38 @@ pub fn report(
     }
 }
 
-/// Exactly as long as it says, so that a reader past the end is one past an allocation.
-pub fn exact(octets: Vec<u8>) -> Box<[u8]> {
-    octets.into_boxed_slice()
+/// Octets that are lent to be read only. Exactly as long as they say, so that a reader past the end is one past an allocation.
+pub struct Exact {
+    before: Vec<u8>,
+    now: Box<[u8]>,
+}
+
+pub fn exact(octets: Vec<u8>) -> Exact {
+    Exact {
+        before: octets.clone(),
+        now: octets.into_boxed_slice(),
+    }
+}
+
+impl Deref for Exact {
+    type Target = [u8];
+
+    fn deref(&self) -> &[u8] {
+        &self.now
+    }
+}
+
+impl Exact {
+    pub fn change(&self, name: &str) -> Option<String> {
+        change_of(name, &self.before, &self.now)
+    }
+}
+
+/// What is wrong if octets that are only to be read were written to.
+pub fn change_of(name: &str, before: &[u8], now: &[u8]) -> Option<String> {
+    // The compiler may take it for granted that what was lent so is as it was.
+    let now = black_box(now);
+    (before != now).then(|| format!("written to: {name}, now {}", hex(now)))
 }
 
 pub fn damaged_by_chance(rng: &mut Rng, mut s: Vec<u8>, chance: usize) -> Vec<u8> {

@@ -48,6 +48,7 @@ pub fn one_listing(rng: &mut Rng, tally: &mut Tally) -> Result<(), String> {
             difference_of_answers(answer, Answer::from(&owed)),
             text.difference("text", owed.unwrap_or(&[])),
             length.difference("length", &owed_length),
+            queue.change("the queue"),
         ],
     )
 }

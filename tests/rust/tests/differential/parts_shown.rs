@@ -1,6 +1,6 @@
 //! `skogmund_part`: several calls for each section.
 use crate::lent::{
-    damaged_by_chance, difference_of_answers, exact, hex, places_about, report, Lent,
+    damaged_by_chance, difference_of_answers, exact, hex, places_about, report, Exact, Lent,
 };
 use crate::tally::{template_kind, Tally};
 use skogmund_tests::entries::{self, Answer};
@@ -61,7 +61,7 @@ fn tally_part(tally: &mut Tally, part: u8, outcome: Outcome<parts::Span>) {
     });
 }
 
-fn one_part(rng: &mut Rng, tally: &mut Tally, s: &[u8]) -> Result<(), String> {
+fn one_part(rng: &mut Rng, tally: &mut Tally, s: &Exact) -> Result<(), String> {
     let (part, k) = (which_part(rng, s), which_range(rng, s));
     let places = places_about(rng, 2);
     let mut span = Lent::new(rng, places, |pattern| pattern);
@@ -78,6 +78,7 @@ fn one_part(rng: &mut Rng, tally: &mut Tally, s: &[u8]) -> Result<(), String> {
         [
             difference_of_answers(answer, Answer::from(&owed)),
             span.difference("span", owed.as_ref().map_or(&[], |span| &span[..])),
+            s.change("the section"),
         ],
     )
 }

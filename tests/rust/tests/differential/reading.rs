@@ -85,6 +85,7 @@ pub fn one_reading(rng: &mut Rng, tally: &mut Tally) -> Result<(), String> {
         [
             difference_of_answers(answer, Answer::from(&owed)),
             values.difference("values", owed.as_deref().unwrap_or(&[])),
+            s.change("the section"),
         ],
     )
 }

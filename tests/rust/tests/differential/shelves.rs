@@ -1,6 +1,6 @@
 //! The entries for shelves. An input is several calls one after the other on two shelves, which begin empty or as any octets, so
 //! that every entry is lent what the others made, and what none of them makes.
-use crate::lent::{difference_of_answers, exact, hex, places_about, report, Lent};
+use crate::lent::{change_of, difference_of_answers, exact, hex, places_about, report, Lent};
 use crate::tally::Tally;
 use skogmund_tests::entries::{self, Answer};
 use skogmund_tests::generate::filings::{Filing, Stock};
@@ -61,7 +61,7 @@ fn settle<T>(
     here: &mut Octets,
     call: Call<T>,
     said: impl Fn() -> String,
-    beside: Option<String>,
+    beside: impl IntoIterator<Item = Option<String>>,
 ) -> Result<(), String> {
     tally.calls += 1;
     tally.outcome(call.entry, call.owed);
@@ -71,8 +71,9 @@ fn settle<T>(
         [
             difference_of_answers(call.answer, Answer::from(call.owed)),
             call.shelf.difference("shelf", call.written),
-            beside,
-        ],
+        ]
+        .into_iter()
+        .chain(beside),
     )?;
     if call.owed.is_ok() {
         *here = call.shelf.now().to_vec();
@@ -91,7 +92,7 @@ fn empty_one(rng: &mut Rng, tally: &mut Tally, here: &mut Octets) -> Result<(), 
         shelf: &shelf,
         written: owed.as_deref().unwrap_or(&[]),
     };
-    settle(tally, here, call, || "empty".to_string(), None)
+    settle(tally, here, call, || "empty".to_string(), [])
 }
 
 pub fn filing_in_hex(filing: &Filing) -> String {
@@ -112,6 +113,7 @@ fn file_one(
     here: &mut Octets,
 ) -> Result<(), String> {
     let filing = &stock.filing(rng);
+    let before = filing.sections().concat();
     let one = places_about(rng, 1);
     let mut shelf = lent_shelf(rng, tally, here);
     let mut kept = Lent::new(rng, one, |pattern| pattern);
@@ -133,7 +135,10 @@ fn file_one(
         written,
     };
     let said = || format!("{} one {one}", filing_in_hex(filing));
-    let beside = kept.difference("kept", &owed_kept);
+    let beside = [
+        kept.difference("kept", &owed_kept),
+        change_of("the sections", &before, &filing.sections().concat()),
+    ];
     settle(tally, here, call, said, beside)
 }
 
@@ -165,7 +170,10 @@ fn file_queue_one(
         written,
     };
     let said = || format!("file_queue three {three} queue {}", hex(&queue));
-    let beside = counts.difference("counts", &owed_counts);
+    let beside = [
+        counts.difference("counts", &owed_counts),
+        queue.change("the queue"),
+    ];
     settle(tally, here, call, said, beside)
 }
 
@@ -197,7 +205,7 @@ fn join_one(rng: &mut Rng, tally: &mut Tally, shelves: &mut Shelves) -> Result<(
         &mut shelves.here,
         call,
         said,
-        other.change("the other shelf"),
+        [other.change("the other shelf")],
     )
 }
 
@@ -222,7 +230,7 @@ fn slot_one(rng: &mut Rng, tally: &mut Tally, here: &mut Octets) -> Result<(), S
         written: &[],
     };
     let said = || format!("slot {slot} places {places}");
-    let beside = values.difference("values", owed.as_deref().unwrap_or(&[]));
+    let beside = [values.difference("values", owed.as_deref().unwrap_or(&[]))];
     settle(tally, here, call, said, beside)
 }
 

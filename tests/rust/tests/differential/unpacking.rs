@@ -70,6 +70,8 @@ pub fn one_unpacking(rng: &mut Rng, tally: &mut Tally) -> Result<(), String> {
         [
             difference_of_answers(answer, Answer::from(&owed)),
             row.difference("row", owed.as_ref().map_or(&[], |row| &row[..])),
+            five.change("section 5"),
+            seven.change("section 7"),
         ],
     )
 }
