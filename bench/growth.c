@@ -28,13 +28,11 @@ static uint64_t read_grid(void *about) {
     return (uint64_t)values[4];
 }
 
-static void print_growth(const char *what, struct job *jobs, size_t sizes, unsigned first) {
-    time_jobs(jobs, sizes);
-    for (size_t i = 0; i < sizes; i++) {
-        printf("| %s | %u | %.0f | ", what, first << i, jobs[i].nanoseconds);
-        if (i > 0) printf("%.2f ", jobs[i].nanoseconds / jobs[i - 1].nanoseconds);
-        printf("|\n");
-    }
+static void print_growth(const char *what, const char *sizes, struct job *jobs, size_t count) {
+    time_jobs(jobs, count);
+    printf("| %s | %s |", what, sizes);
+    for (size_t i = 1; i < count; i++) printf("%s %.2f", i == 1 ? "" : ",", jobs[i].nanoseconds / jobs[i - 1].nanoseconds);
+    printf(" |\n");
     fflush(stdout);
 }
 
@@ -53,11 +51,11 @@ void bench_growth(void) {
         listing[i] = (struct job){list_queue, &queues[i], 0};
     }
     printf("## Growth\n\n");
-    printf("The last column is the time over that of half the size; 2 is growth in proportion.\n\n");
-    printf("| what | size | ns | factor |\n|---|---:|---:|---:|\n");
-    print_growth("unpacking, values of 12 bits", unpacking, MOST_SIZES, 1000);
-    print_growth("filing a queue, records", filing, QUEUES, 50);
-    print_growth("listing a queue, records", listing, QUEUES, 50);
-    print_growth("reading section 3, numbers in its list", reading, MOST_SIZES, 1000);
+    printf("What the time is multiplied by when the size doubles; 2 is growth in proportion.\n\n");
+    printf("| what | sizes | factors |\n|---|---|---|\n");
+    print_growth("unpacking values of 12 bits", "1,000 to 32,000", unpacking, MOST_SIZES);
+    print_growth("filing a queue, making the shelf empty included, records", "50 to 400", filing, QUEUES);
+    print_growth("listing a queue, records", "50 to 400", listing, QUEUES);
+    print_growth("reading section 3, numbers in its list", "1,000 to 32,000", reading, MOST_SIZES);
     printf("\n");
 }

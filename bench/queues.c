@@ -106,9 +106,9 @@ static void print_queues(const struct queue *q, const struct job *filing, const 
     printf("A queue of %zu octets with %llu records, %llu kept and the others passed. The others have nothing like it, so there is no ratio.\n\n",
            q->n, (unsigned long long)q->records, (unsigned long long)q->kept);
     printf("| what | ns | records a second |\n|---|---:|---:|\n");
-    printf("| filing the queue into an empty shelf | %.0f | %.0f |\n", filing->nanoseconds, records / filing->nanoseconds * 1e9);
+    printf("| filing the queue, making the shelf empty included | %.0f | %.0f |\n", filing->nanoseconds, records / filing->nanoseconds * 1e9);
     printf("| listing the queue | %.0f | %.0f |\n", listing->nanoseconds, records / listing->nanoseconds * 1e9);
-    printf("| joining two full shelves | %.0f | |\n\n", joining->nanoseconds);
+    printf("| joining two full shelves, copying one of them included | %.0f | |\n\n", joining->nanoseconds);
     fflush(stdout);
 }
 
