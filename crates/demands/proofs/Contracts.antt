@@ -9,14 +9,17 @@ use Rattle.product.specs.Section4 as four
 use Rattle.product.specs.Views.{rangeSpan, memberSpan, coordinateSpan, rangeOf, membersOf, coordinatesOf}
 use Rattle.packing.specs.Section5 as five
 use Rattle.packing.specs.Section7 as seven
-use Rattle.packing.specs.Unpacking.{Unpacks}
+use Rattle.packing.specs.Unpacking.{Unpacks, unpackOutcome, rowAfter}
 use Rattle.field.specs.Field as field
 use Rattle.shelf.specs.Shelves.{emptyShelf, putOf, joinShelf}
 use Rattle.filing.specs.Filing.{filedOf}
 use Rattle.filing.specs.declared.Issue.the-variants.{NotNamed}
 use Rattle.queue.specs.Queues.{recordIn, recordFiled, queueFiled}
-use Rattle.text.specs.Text.{written, startsWith}
+use Rattle.text.specs.Text.{written, startsWith, append}
 use Rattle.report.specs.Texts.{listing, explanation}
+use Rattle.shelf_octets.specs.ShelfOctets.{shelfIn, octetsOf}
+use Rattle.skogmund.specs.Entries.{coded, ListInto}
+use Rattle.skogmund.specs.Shelves.{done, emptied, joined, filed, filedField, filedQueue, shown, slotShown}
 use Rattle.skogmund.specs.Parts.{PartInto}
 use Rattle.skogmund.specs.Records.{ReadInto}
 use Rattle.identification.proofs.read.Reads as read₁
@@ -43,6 +46,15 @@ use Rattle.queue.proofs.file_record.Reads as file-record
 use Rattle.queue.proofs.file.Reads as file-queue
 use Rattle.report.proofs.whole_listing.Reads as whole-listing
 use Rattle.report.proofs.whole_explanation.Reads as whole-explanation
+use Rattle.shelf_octets.proofs.read.Reads as octets-read
+use Rattle.shelf_octets.proofs.write.Reads as octets-write
+use Rattle.skogmund.proofs.skogmund_unpack.Reads as skogmund-unpack
+use Rattle.skogmund.proofs.skogmund_list.Reads as skogmund-list
+use Rattle.skogmund.proofs.shelves.skogmund_empty.Reads as skogmund-empty
+use Rattle.skogmund.proofs.shelves.skogmund_join.Reads as skogmund-join
+use Rattle.skogmund.proofs.shelves.skogmund_file.Reads as skogmund-file
+use Rattle.skogmund.proofs.shelves.skogmund_file_queue.Reads as skogmund-file-queue
+use Rattle.skogmund.proofs.shelves.skogmund_slot.Reads as skogmund-slot
 use Rattle.skogmund.proofs.part.skogmund_part.Reads as skogmund-part
 use Rattle.skogmund.proofs.record.skogmund_read.Reads as skogmund-read
 
@@ -123,3 +135,30 @@ skogmund-tells-part lent given r later e = e
 
 pub skogmund-tells-record : (lent : _) (given : _) (r : _) (later : _) → skogmund-read.Learnt lent given r later → ReadInto (given .0) (now (given .1 .0)) (now (given .1 .1 .0)) r (now (later .1 .1 .0))
 skogmund-tells-record lent given r later e = e
+
+pub shelf-octets-read : (lent : _) (given : _) (r : _) (later : _) → octets-read.Learnt lent given r later → r ≡ shelfIn (now (given .0))
+shelf-octets-read lent given r later e = e
+
+pub shelf-octets-write : (lent : _) (given : _) (r : _) (later : _) → octets-write.Learnt lent given r later → written (now (later .0)) r ≡ append (written (now (given .0)) 0) (octetsOf (given .1 .0))
+shelf-octets-write lent given r later e = e
+
+pub skogmund-unpacks : (lent : _) (given : _) (r : _) (later : _) → skogmund-unpack.Learnt lent given r later → (r ≡ coded (unpackOutcome (now (given .0)) (now (given .1 .0)) (now (given .1 .1 .0)))) × (now (later .1 .1 .0) ≡ rowAfter (now (given .0)) (now (given .1 .0)) (now (given .1 .1 .0)))
+skogmund-unpacks lent given r later e = e
+
+pub skogmund-lists : (lent : _) (given : _) (r : _) (later : _) → skogmund-list.Learnt lent given r later → ListInto (now (given .0)) (now (given .1 .0)) (now (given .1 .1 .0)) r (now (later .1 .0)) (now (later .1 .1 .0))
+skogmund-lists lent given r later e = e
+
+pub skogmund-empties : (lent : _) (given : _) (r : _) (later : _) → skogmund-empty.Learnt lent given r later → done r (now (later .0)) ≡ emptied (now (given .0))
+skogmund-empties lent given r later e = e
+
+pub skogmund-joins : (lent : _) (given : _) (r : _) (later : _) → skogmund-join.Learnt lent given r later → done r (now (later .0)) ≡ joined (now (given .0)) (now (given .1 .0))
+skogmund-joins lent given r later e = e
+
+pub skogmund-files-field : (lent : _) (given : _) (r : _) (later : _) → skogmund-file.Learnt lent given r later → filed r (now (later .0)) (now (later .1 .1 .1 .1 .1 .1 .1 .1 .0)) ≡ filedField (now (given .0)) (given .1 .0) (given .1 .1 .0) (now (given .1 .1 .1 .0)) (now (given .1 .1 .1 .1 .0)) (now (given .1 .1 .1 .1 .1 .0)) (now (given .1 .1 .1 .1 .1 .1 .0)) (now (given .1 .1 .1 .1 .1 .1 .1 .0)) (now (given .1 .1 .1 .1 .1 .1 .1 .1 .0))
+skogmund-files-field lent given r later e = e
+
+pub skogmund-files-queue : (lent : _) (given : _) (r : _) (later : _) → skogmund-file-queue.Learnt lent given r later → filed r (now (later .0)) (now (later .1 .1 .0)) ≡ filedQueue (now (given .0)) (now (given .1 .0)) (now (given .1 .1 .0))
+skogmund-files-queue lent given r later e = e
+
+pub skogmund-shows-slot : (lent : _) (given : _) (r : _) (later : _) → skogmund-slot.Learnt lent given r later → shown r (now (later .1 .1 .0)) ≡ slotShown (now (given .0)) (given .1 .0) (now (given .1 .1 .0))
+skogmund-shows-slot lent given r later e = e
