@@ -3,6 +3,7 @@
 use Prim.Native.Nat.{ℕ}
 use mathlib.Core.Path.{_≡_, sym, ap, _∙_}
 use mathlib.Core.List.{List}
+use lib.IntN.{ℤ}
 use Rattle.layout.specs.Fields.{Value}
 use Rattle.layout.specs.Missing.{in32, inSigned}
 use Rattle.layout.specs.Time.{timeIn}
@@ -33,7 +34,10 @@ use Rattle.shelf.specs.declared.Shelf.{Shelf}
 use Rattle.filing.specs.declared.Answer.{Answer}
 use Rattle.filing.specs.declared.Filed.{Filed}
 use Rattle.text.specs.Text.{Written, written}
+use Rattle.skogmund.specs.Entries.{ListInto}
 use Rattle.skogmund.specs.Parts.{PartInto}
+use Rattle.skogmund.specs.Records.{ReadInto}
+use Rattle.skogmund.specs.Shelves.{Done, done, Filed as FiledFor, filed, Shown, shown}
 
 -- ---- the readers, whose contracts say what an answer tells
 
@@ -59,7 +63,8 @@ one-field = determined-field
 pub one-unpacking : (five seven row : List ℕ) (a b : Unpacked) (after later : List ℕ) → Unpacks five seven row a after → Unpacks five seven row b later → (a ≡ b) × (after ≡ later)
 one-unpacking = determined-row
 
--- ---- contracts that are equations: octets, layout's places, card, shelf, filing by value, queue, `refusal_of`, and the octets of a view
+-- ---- contracts that are equations: octets, layout's places, card, shelf, filing by value, queue, `refusal_of`, the octets of a view, and
+-- both that `skogmund_unpack` promises
 
 pub one-answer : {A : Type 0} {x : A} (a b : A) → a ≡ x → b ≡ x → a ≡ b
 one-answer a b p q = p ∙ sym q
@@ -88,3 +93,26 @@ one-text x a b after later p q = let e = p ∙ sym q in (ap (λ (x : Written). x
 -- `skogmund_part`: the number that is answered and the lent places
 pub one-part : (part : ℕ) (s : List ℕ) (k : ℕ) (places : List ℕ) (a b : ℕ) (after later : List ℕ) → PartInto part s k places a after → PartInto part s k places b later → (a ≡ b) × (after ≡ later)
 one-part part s k places a b after later p q = (p .answers ∙ sym (q .answers), p .writes ∙ sym (q .writes))
+
+-- `skogmund_read`: the number that is answered and the lent row
+pub one-read : (section : ℕ) (s : List ℕ) (row : List ℤ) (a b : ℕ) (after later : List ℤ) → ReadInto section s row a after → ReadInto section s row b later → (a ≡ b) × (after ≡ later)
+one-read section s row a b after later p q = (p .answers ∙ sym (q .answers), p .writes ∙ sym (q .writes))
+
+-- `skogmund_list`: the number that is answered, the lent text and the lent places
+pub one-list : (q text places : List ℕ) (a b : ℕ) (text₁ text₂ places₁ places₂ : List ℕ) → ListInto q text places a text₁ places₁ → ListInto q text places b text₂ places₂
+    → (a ≡ b) × (text₁ ≡ text₂) × (places₁ ≡ places₂)
+one-list q text places a b text₁ text₂ places₁ places₂ x y =
+    (x .answers ∙ sym (y .answers), x .writes ∙ sym (y .writes), x .counts ∙ sym (y .counts))
+
+-- `skogmund_empty` and `skogmund_join`: the number that is answered and the lent shelf
+pub one-shelf : (x : Done) (a b : ℕ) (after later : List ℕ) → done a after ≡ x → done b later ≡ x → (a ≡ b) × (after ≡ later)
+one-shelf x a b after later p q = let e = p ∙ sym q in (ap (λ (x : Done). x .answer) e, ap (λ (x : Done). x .shelf) e)
+
+-- `skogmund_file` and `skogmund_file_queue`: the lent numbers too
+pub one-filed : (x : FiledFor) (a b : ℕ) (after later numbers₁ numbers₂ : List ℕ) → filed a after numbers₁ ≡ x → filed b later numbers₂ ≡ x → (a ≡ b) × (after ≡ later) × (numbers₁ ≡ numbers₂)
+one-filed x a b after later numbers₁ numbers₂ p q =
+    let e = p ∙ sym q in (ap (λ (x : FiledFor). x .answer) e, ap (λ (x : FiledFor). x .shelf) e, ap (λ (x : FiledFor). x .numbers) e)
+
+-- `skogmund_slot`: the number that is answered and the lent values
+pub one-slot : (x : Shown) (a b : ℕ) (after later : List ℤ) → shown a after ≡ x → shown b later ≡ x → (a ≡ b) × (after ≡ later)
+one-slot x a b after later p q = let e = p ∙ sym q in (ap (λ (x : Shown). x .answer) e, ap (λ (x : Shown). x .values) e)

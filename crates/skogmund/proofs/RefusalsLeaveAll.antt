@@ -1,4 +1,4 @@
--- Where an entry for C refuses, each lent buffer is as it was. Of `skogmund_unpack` the contract is `packing::unpack`'s.
+-- Where an entry for C refuses, each lent buffer is as it was.
 -- Assumes nothing.
 use Prim.Native.Nat.{ℕ}
 use mathlib.Core.Path.{_≡_, refl}
@@ -6,8 +6,11 @@ use mathlib.Core.Bool.{Bool, true, false, cond, _&&_}
 use mathlib.Core.List.{List, [], _∷_}
 use lib.Dec.{ltb, leb}
 use lib.IntN.{ℤ}
-use lib.ListN.{length, set}
+use lib.ListN.{length, drop, set}
 use Rattle.layout.specs.Outcomes.{Outcome, refused, read}
+use Rattle.packing.specs.Packed.{unpacked}
+use Rattle.packing.specs.Section5.{valuesAt, bitsAt}
+use Rattle.packing.specs.Unpacking.{unpackOutcome, rowBy, rowAfter}
 use Rattle.shelf.specs.declared.Shelf.{Shelf}
 use Rattle.shelf.specs.Shelves.{slotAt}
 use Rattle.shelf_octets.specs.ShelfOctets.{shelfIn, octetsOf}
@@ -85,6 +88,14 @@ slot-leaves s slot values h = by (ltb 63 slot) (isShelf s && leb 64 (length valu
     by false false l h = refl
 
 -- ---- sections and listings
+
+pub unpack-leaves : (five seven row : List ℕ) (answer : ℕ) (row′ : List ℕ) → answer ≡ coded (unpackOutcome five seven row) → row′ ≡ rowAfter five seven row → (answer ≡ 0 → ⊥) → row′ ≡ row
+unfolding rowAfter
+unpack-leaves five seven row answer row′ a w h = by (unpackOutcome five seven row) a w
+  where
+    by : (o : Outcome) → answer ≡ coded o → row′ ≡ rowBy o row (unpacked (bitsAt five) (valuesAt five) (drop 5 seven)) → row′ ≡ row
+    by (refused number section place) a w = w
+    by (read vs) a w = absurd (h a)
 
 pub read-leaves : (section : ℕ) (s : List ℕ) (row : List ℤ) (answer : ℕ) (row′ : List ℤ) → ReadInto section s row answer row′ → (answer ≡ 0 → ⊥) → row′ ≡ row
 unfolding valuesAfter
