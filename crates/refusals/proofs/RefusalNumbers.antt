@@ -218,7 +218,7 @@ unfolding andThen
 then-refuses table (refused number section place) next p q = p
 then-refuses table (read vs) next p q = q
 
-unpack-refuses : (five seven row : List ℕ) → Refuses unpackTable (unpackOutcome five seven row)
+pub unpack-refuses : (five seven row : List ℕ) → Refuses unpackTable (unpackOutcome five seven row)
 unfolding unpackOutcome Right
 unpack-refuses five seven row =
     let n = valuesAt five in
