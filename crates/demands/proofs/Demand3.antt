@@ -1,7 +1,14 @@
 -- Demand 3. The definitions in it: a card and the order of cards (`card/specs/Key.antt`), a shelf and joining two
 -- (`shelf/specs/Shelves.antt`), what a slot must hold (`Keeps`, `shelf/specs/History.antt`), filing a field (`filing/specs/Filing.antt`) and
--- a queue (`queue/specs/Queues.antt`), and how a shelf came about (`queue/specs/History.antt`).
+-- a queue (`queue/specs/Queues.antt`), and how a shelf came about (`queue/specs/History.antt`). Of the entries for C: what they leave
+-- (`skogmund/specs/Shelves.antt`), and the octets of a history's shelf (`Leaves`, `demands/specs/Histories.antt`).
 -- Assumes nothing.
+
+-- of shelves as octets, which are stored or sent between two calls
+pub use Rattle.demands.proofs.ShelvesAsOctets.{history-read-back, octets-greatest-card, octets-join-commutes, octets-join-associates, octets-join-idempotent}
+-- of the entries for C, which leave the octets of a history's shelf
+pub use Rattle.demands.proofs.ShelvesForC.{c-empties, c-joins, c-files, c-files-queue, c-shows}
+-- The rest are the theorems of this file.
 use Prim.Native.Nat.{ℕ, _<_}
 use mathlib.Core.Path.{_≡_, refl, ap, _∙_}
 use mathlib.Core.Bool.{Bool, false, cond}

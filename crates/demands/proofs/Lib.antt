@@ -8,3 +8,4 @@ pub mod Demand3
 pub mod WrongPrograms
 pub mod Contracts
 pub mod ShelvesAsOctets
+pub mod ShelvesForC

@@ -41,6 +41,7 @@ use Rattle.queue.specs.History.{History, start, file, queue, join, shelfOf, acc
 use Rattle.queue.proofs.Histories.{kept}
 use Rattle.queue.proofs.Taken.{taken}
 use Rattle.queue.proofs.Cuts.{stands}
+use Rattle.demands.specs.Histories.{Given}
 
 -- ---- the card of a field that is accepted
 
@@ -124,7 +125,7 @@ abbrev AllTold : List Sent → Type 0
 AllTold [] = Unit {0}
 AllTold (r ∷ rs) = Told r × AllTold rs
 
-issue-small : (stored : ℕ) → stored ≤ 4294967296 → issueOf (issueFrom stored) < 2 ^ 32
+pub issue-small : (stored : ℕ) → stored ≤ 4294967296 → issueOf (issueFrom stored) < 2 ^ 32
 issue-small stored h = by-zero (eqb stored 0)
   where
     by-zero : (t : Bool) → issueOf (cond t NotNamed (Named (stored - 1))) < 2 ^ 32
@@ -189,13 +190,6 @@ pub read-after-joining : (a b : List ℕ) → AllOctets a → AllOctets b → sh
 read-after-joining = laws.join-read
 
 -- ---- so octets may be stored or sent between any two calls of a history
-
--- what a history was given is octets, and issues of 32 bits
-pub Given : History → Type 0
-Given start = Unit {0}
-Given (file slot x h) = AllOctets (x .s1) × (issueOf (x .issue) < 2 ^ 32) × Given h
-Given (queue q h) = AllOctets q × Given h
-Given (join g h) = Given g × Given h
 
 stored-history : (h : History) → Given h → Stored (shelfOf h)
 unfolding shelfOf Given

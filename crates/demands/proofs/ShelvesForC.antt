@@ -1,0 +1,80 @@
+-- Demand 3 of the entries for C: where one answers 0, the octets of a history's shelf become those of the history that goes on with it.
+-- Where it refuses, they stay (`RefusalsLeaveAll`).
+-- Assumes nothing.
+use Prim.Native.Nat.{ℕ, _<_}
+use native.Mathlib.Omega.{arith}
+use mathlib.Core.Path.{_≡_, refl, sym, ap, ap₂, _∙_}
+use mathlib.Core.Bool.{Bool, true, false, cond, _&&_}
+use mathlib.Core.List.{List}
+use lib.Dec.{ltb, leb}
+use lib.IntN.{ℤ}
+use lib.ListN.{length}
+use borrow.Author.Tests.{ltb-false}
+use Rattle.octets.specs.Octets.{AllOctets}
+use Rattle.shelf.specs.declared.Shelf.{Shelf}
+use Rattle.shelf.specs.Shelves.{slotAt, joinShelf}
+use Rattle.shelf_octets.specs.ShelfOctets.{shelfIn, octetsOf, joinOctets}
+use Rattle.shelf_octets.proofs.Laws.{empty-zeros}
+use Rattle.filing.specs.Filing.{filedOf}
+use Rattle.queue.specs.Queues.{queueFiled}
+use Rattle.queue.specs.Records.{issueFrom}
+use Rattle.queue.specs.History.{History, start, file, queue, join, shelfOf}
+use Rattle.skogmund.specs.Entries.{code, over}
+use Rattle.skogmund.specs.Shelves.{noRoom, isShelf, Done, done, emptied, joined, Filed, filed, filedField, filedQueue, Shown, shown, slotValues, slotShown}
+use Rattle.skogmund.proofs.Answered.{field-left, queue-left}
+use Rattle.demands.specs.Histories.{Given, Leaves, fieldOf}
+use Rattle.demands.proofs.ShelvesAsOctets.{issue-small, history-read-back}
+
+-- the shelf that such octets say
+says : (h : History) (s : List ℕ) → Leaves h s → shelfIn s ≡ shelfOf h
+says h s l = ap shelfIn (l .left) ∙ history-read-back h (l .given)
+
+-- 0 says that there was room
+done-left : (t : Bool) (s after s′ : List ℕ) → done 0 s′ ≡ cond t (done 0 after) (done noRoom s) → s′ ≡ after
+done-left true s after s′ e = ap (λ (x : Done). x .shelf) e
+done-left false s after s′ e = absurd (omega (arith, ap (λ (x : Done). x .answer) e))
+
+pub c-empties : (s s′ : List ℕ) → done 0 s′ ≡ emptied s → Leaves start s′
+unfolding emptied Given shelfOf
+c-empties s s′ e = record { given = tt; left = done-left (isShelf s) s _ s′ e ∙ sym empty-zeros }
+
+pub c-joins : (g h : History) (s other s′ : List ℕ) → Leaves g s → Leaves h other → done 0 s′ ≡ joined s other → Leaves (join g h) s′
+unfolding joined Given shelfOf
+c-joins g h s other s′ l m e =
+    record {
+      given = (l .given, m .given);
+      left = done-left (isShelf s && isShelf other) s (joinOctets s other) s′ e ∙ ap₂ (λ (a b : Shelf). octetsOf (joinShelf a b)) (says g s l) (says h other m);
+    }
+
+pub c-files : (h : History) (s : List ℕ) (slot stored : ℕ) (s1 s3 s4 s5 s7 places s′ places′ : List ℕ) → Leaves h s → AllOctets s1 → filed 0 s′ places′ ≡ filedField s slot stored s1 s3 s4 s5 s7 places
+    → Leaves (file slot (fieldOf stored s1 s3 s4 s5 s7) h) s′
+unfolding Given shelfOf
+c-files h s slot stored s1 s3 s4 s5 s7 places s′ places′ l a e =
+    let x = field-left s slot stored s1 s3 s4 s5 s7 places (sym (ap (λ (x : Filed). x .answer) e)) in
+    record {
+      given = (a, issue-small stored (x .0 .0), l .given);
+      left = ap (λ (x : Filed). x .shelf) e ∙ x .1 ∙ ap (λ (y : Shelf). octetsOf (filedOf y slot (issueFrom stored) s1 s3 s4 s5 s7 .shelf)) (says h s l);
+    }
+
+pub c-files-queue : (h : History) (s q places s′ places′ : List ℕ) → Leaves h s → AllOctets q → filed 0 s′ places′ ≡ filedQueue s q places → Leaves (queue q h) s′
+unfolding Given shelfOf
+c-files-queue h s q places s′ places′ l a e =
+    let x = queue-left s q places (sym (ap (λ (x : Filed). x .answer) e)) in
+    record {
+      given = (a, l .given);
+      left = ap (λ (x : Filed). x .shelf) e ∙ x .2 ∙ ap (λ (y : Shelf). octetsOf (queueFiled y q .shelf)) (says h s l);
+    }
+
+-- what the history's slot holds; `greatest-card` says which card that is
+pub c-shows : (h : History) (s : List ℕ) (slot : ℕ) (values values′ : List ℤ) → Leaves h s → shown 0 values′ ≡ slotShown s slot values
+    → (slot < 64) × (values′ ≡ over values (slotValues (slotAt (shelfOf h) slot)))
+unfolding slotShown
+c-shows h s slot values values′ l e = by (ltb 63 slot) refl (isShelf s && leb 64 (length values)) e
+  where
+    by : (t : Bool) → ltb 63 slot ≡ t → (u : Bool) → shown 0 values′ ≡ cond t (shown (code 16 0 0) values) (cond u (shown 0 (over values (slotValues (slotAt (shelfIn s) slot)))) (shown noRoom values))
+        → (slot < 64) × (values′ ≡ over values (slotValues (slotAt (shelfOf h) slot)))
+    by true f u e = absurd (omega (arith, ap (λ (x : Shown). x .answer) e))
+    by false f true e =
+        let small = ltb-false 63 slot f in
+        (omega (arith, small), ap (λ (x : Shown). x .values) e ∙ ap (λ (y : Shelf). over values (slotValues (slotAt y slot))) (says h s l))
+    by false f false e = absurd (omega (arith, ap (λ (x : Shown). x .answer) e))
