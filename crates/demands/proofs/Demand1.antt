@@ -11,8 +11,8 @@ pub use Rattle.demands.proofs.OneAnswer.{one-identification, one-grid, 
 -- ".. or refuses with a number from document 01.": its table lists the number for the section, and the place is 0 except with 8,
 -- and then an octet that a section can have.
 pub use Rattle.refusals.proofs.RefusalNumbers.{identification-refuses, grid-refuses, product-refuses, packing-refuses, data-refuses, unpacking-refuses, field-refuses, filing-refuses, record-refuses, queue-refuses, queue-number, head-number}
--- C is told the refusal in one number, which can be taken apart, and 0 exactly where nothing is refused
-pub use Rattle.skogmund.proofs.Answered.{taken-apart, listed-code, unpacked-exactly-when, filed-exactly-when, queue-exactly-when}
+-- C is told the refusal in one number, which can be taken apart, and 0 exactly where nothing is refused (`skogmund_read`'s is demand 2's)
+pub use Rattle.skogmund.proofs.Answered.{taken-apart, listed-code, unpacked-exactly-when, part-exactly-when, listed-exactly-when, emptied-exactly-when, joined-exactly-when, shown-exactly-when, filed-exactly-when, queue-exactly-when}
 -- "A refusal changes no shelf and no lent buffer.": the theorems of this file, and for the entries for C
 pub use Rattle.skogmund.proofs.RefusalsLeaveAll.{unpack-leaves, read-leaves, part-leaves, list-leaves, empty-leaves, join-leaves, field-leaves, queue-leaves, slot-leaves}
 use Prim.Native.Nat.{ℕ}

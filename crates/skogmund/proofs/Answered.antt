@@ -7,8 +7,9 @@ use mathlib.Core.Logic.{_↔_}
 use mathlib.Core.Bool.{Bool, true, false, cond, _&&_}
 use mathlib.Core.List.{List, [], _∷_}
 use lib.Dec.{eqb, ltb, leb}
-use lib.ListN.{length}
-use borrow.Author.Tests.{le-ltb, ltb-false, le-leb, leb-true, eq-eqb, eqb-true, eqb-false}
+use lib.IntN.{ℤ}
+use lib.ListN.{length, replicate}
+use borrow.Author.Tests.{le-ltb, ltb-false, lt-ltb, ltb-true, le-leb, leb-true, eq-eqb, eqb-true, eqb-false}
 use Rattle.layout.specs.Fields.{Value}
 use Rattle.layout.specs.Outcomes.{refused, read}
 use Rattle.layout.specs.declared.Refusal.{Refusal}
@@ -16,17 +17,19 @@ use Rattle.layout.proofs.Ranges.{both-hold}
 use Rattle.packing.specs.Unpacking.{unpackOutcome}
 use Rattle.card.specs.declared.Card.{Card}
 use Rattle.shelf.specs.declared.Shelf.{Shelf}
-use Rattle.shelf.specs.Shelves.{putOf}
-use Rattle.shelf_octets.specs.ShelfOctets.{shelfIn, octetsOf}
+use Rattle.shelf.specs.Shelves.{slotAt, putOf}
+use Rattle.shelf_octets.specs.ShelfOctets.{shelfIn, octetsOf, joinOctets}
 use Rattle.filing.specs.Filing.{Filing, refusedFiling, accepted, filingOf, keptIf, filedBy, filedOf}
 use Rattle.queue.specs.Records.{issueFrom}
 use Rattle.queue.specs.declared.QueueFiled.{QueueFiled}
 use Rattle.queue.specs.Queues.{cutOf, recordsFiled, fromStart, queueRefusal, refusedQueue, acceptedQueue, queueFiled}
+use Rattle.report.specs.Texts.{listing}
 use Rattle.refusals.specs.Refusals.{Row, Listed, unpackTable, filingTable}
 use Rattle.refusals.proofs.RefusalNumbers.{unpack-refuses, filing-refuses}
 use Rattle.refusals.proofs.OneNumber.{positive, proper}
-use Rattle.skogmund.specs.Entries.{code, codeOf, coded, over}
-use Rattle.skogmund.specs.Shelves.{noRoom, isShelf, Filed, filed, keptIn, fieldKept, filedField, queueKept, filedQueue}
+use Rattle.skogmund.specs.Entries.{code, codeOf, coded, over, fits, ListInto}
+use Rattle.skogmund.specs.Parts.{PartInto}
+use Rattle.skogmund.specs.Shelves.{noRoom, isShelf, done, emptied, joined, Filed, filed, keptIn, fieldKept, filedField, queueKept, filedQueue, slotValues, shown, slotShown}
 use Rattle.skogmund.proofs.RecordTold.{accepting}
 
 -- ---- which refusal it is
@@ -38,12 +41,76 @@ taken-apart n s p n′ s′ p′ a b c d e = (omega (arith, e), omega (arith, e)
 pub listed-code : (table : List Row) (x : Refusal) → positive table ≡ true → Listed table x → codeOf x ≡ 0 → ⊥
 listed-code table x p h e = proper table (refused (x .number) (x .section) (x .place)) p h .0 (omega (arith, e))
 
+both : {a b : Bool} → a ≡ true → b ≡ true → (a && b) ≡ true
+both {a} {b} p q = rw (p, q)
+
 -- ---- unpacking
 
 pub unpacked-exactly-when : (five seven row : List ℕ) (answer : ℕ) → answer ≡ coded (unpackOutcome five seven row) → (answer ≡ 0) ↔ ((vs : List Value) × (unpackOutcome five seven row ≡ read vs))
 unpacked-exactly-when five seven row answer a =
     let o = unpackOutcome five seven row in
     ((λ e. accepting o (proper unpackTable o refl (unpack-refuses five seven row)) (sym a ∙ e)), (λ t. a ∙ ap coded (t .1)))
+
+-- ---- parts and listings
+
+pub part-exactly-when : (part : ℕ) (s : List ℕ) (k : ℕ) (places : List ℕ) (answer : ℕ) (places′ : List ℕ) → PartInto part s k places answer places′ → (answer ≡ 0) ↔ (2 ≤ length places)
+part-exactly-when part s k places answer places′ p = (
+  (λ e. by (ltb (length places) 2) refl (sym (p .answers) ∙ e)),
+  (λ h. p .answers ∙ ap (λ (t : Bool). cond t (code 18 0 0) 0) (le-ltb _ _ h)),
+)
+  where
+    by : (t : Bool) → ltb (length places) 2 ≡ t → cond t (code 18 0 0) 0 ≡ 0 → 2 ≤ length places
+    by true h e = absurd (omega (arith, e))
+    by false h e = ltb-false _ _ h
+
+pub listed-exactly-when : (q text places : List ℕ) (answer : ℕ) (text′ places′ : List ℕ) → ListInto q text places answer text′ places′ → (answer ≡ 0) ↔ ((length (listing q) ≤ length text) × (0 < length places))
+listed-exactly-when q text places answer text′ places′ p = (
+  (λ e. by (fits q text places) refl (sym (p .answers) ∙ e)),
+  (λ h. p .answers ∙ ap (λ (t : Bool). cond t 0 (code 18 0 0)) (both (le-leb _ _ (h .0)) (lt-ltb _ _ (h .1)))),
+)
+  where
+    by : (t : Bool) → fits q text places ≡ t → cond t 0 (code 18 0 0) ≡ 0 → (length (listing q) ≤ length text) × (0 < length places)
+    by true h e = let x = both-hold _ _ h in (leb-true _ _ (x .0), ltb-true _ _ (x .1))
+    by false h e = absurd (omega (arith, e))
+
+-- ---- a shelf alone, and a slot
+
+done-test : (t : Bool) (s after : List ℕ) → cond t (done 0 after) (done noRoom s) .answer ≡ 0 → t ≡ true
+done-test true s after e = refl
+done-test false s after e = absurd (omega (arith, e))
+
+pub emptied-exactly-when : (s : List ℕ) → (emptied s .answer ≡ 0) ↔ (length s ≡ 2624)
+unfolding emptied
+emptied-exactly-when s = (
+  (λ e. eqb-true _ _ (done-test (isShelf s) s (replicate 2624 0) e)),
+  (λ h. ap (λ (t : Bool). cond t (done 0 (replicate 2624 0)) (done noRoom s) .answer) (eq-eqb _ _ h)),
+)
+
+pub joined-exactly-when : (s other : List ℕ) → (joined s other .answer ≡ 0) ↔ ((length s ≡ 2624) × (length other ≡ 2624))
+unfolding joined
+joined-exactly-when s other = (
+  (λ e. let x = both-hold _ _ (done-test (isShelf s && isShelf other) s (joinOctets s other) e) in (eqb-true _ _ (x .0), eqb-true _ _ (x .1))),
+  (λ h. ap (λ (t : Bool). cond t (done 0 (joinOctets s other)) (done noRoom s) .answer) (both (eq-eqb _ _ (h .0)) (eq-eqb _ _ (h .1)))),
+)
+
+pub shown-exactly-when : (s : List ℕ) (slot : ℕ) (values : List ℤ) → (slotShown s slot values .answer ≡ 0) ↔ ((slot < 64) × (length s ≡ 2624) × (64 ≤ length values))
+unfolding slotShown
+shown-exactly-when s slot values = (
+  (λ e. by (ltb 63 slot) refl (isShelf s && leb 64 (length values)) refl e),
+  (λ h.
+      ap (λ (t : Bool). cond t (shown (code 16 0 0) values) (cond (isShelf s && leb 64 (length values)) (shown 0 (over values (slotValues (slotAt (shelfIn s) slot)))) (shown noRoom values)) .answer) (le-ltb 63 slot (omega (arith, h .0)))
+      ∙ ap (λ (t : Bool). cond t (shown 0 (over values (slotValues (slotAt (shelfIn s) slot)))) (shown noRoom values) .answer) (both (eq-eqb _ _ (h .1)) (le-leb _ _ (h .2)))),
+)
+  where
+    by : (t : Bool) → ltb 63 slot ≡ t → (u : Bool) → (isShelf s && leb 64 (length values)) ≡ u
+        → cond t (shown (code 16 0 0) values) (cond u (shown 0 (over values (slotValues (slotAt (shelfIn s) slot)))) (shown noRoom values)) .answer ≡ 0
+        → (slot < 64) × (length s ≡ 2624) × (64 ≤ length values)
+    by true f u g e = absurd (omega (arith, e))
+    by false f true g e =
+        let small = ltb-false 63 slot f in
+        let x = both-hold _ _ g in
+        (omega (arith, small), eqb-true _ _ (x .0), leb-true _ _ (x .1))
+    by false f false g e = absurd (omega (arith, e))
 
 -- ---- filing
 
@@ -63,8 +130,7 @@ keep-room s places after ns e = by (isShelf s && leb (length ns) (length places)
 room-kept : (s places : List ℕ) (after : Shelf) (ns : List ℕ) → Room s places (length ns) → keptIn s places after ns .answer ≡ 0
 unfolding keptIn
 room-kept s places after ns r =
-    ap (λ (t : Bool). cond (t && leb (length ns) (length places)) (filed 0 (octetsOf after) (over places ns)) (filed noRoom s places) .answer) (eq-eqb _ _ (r .0))
-    ∙ ap (λ (t : Bool). cond t (filed 0 (octetsOf after) (over places ns)) (filed noRoom s places) .answer) (le-leb _ _ (r .1))
+    ap (λ (t : Bool). cond t (filed 0 (octetsOf after) (over places ns)) (filed noRoom s places) .answer) (both (eq-eqb _ _ (r .0)) (le-leb _ _ (r .1)))
 
 module _ (s : List ℕ) (slot stored : ℕ) (s1 s3 s4 s5 s7 places : List ℕ) where
   abbrev made : Filed
