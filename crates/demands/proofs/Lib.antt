@@ -9,3 +9,4 @@ pub mod WrongPrograms
 pub mod Contracts
 pub mod ShelvesAsOctets
 pub mod ShelvesForC
+pub mod NumbersForC

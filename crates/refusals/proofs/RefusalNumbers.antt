@@ -85,7 +85,7 @@ one-within large (r ∷ rs) section n w e =
     (λ h e. rw (eqb-true section (r .section) h) (all-of (numbersOf large (r .section)) (r .numbers) n (parts .0) e))
     (λ h e. one-within large rs section n (parts .1) e) e
 
-wider : (large small : List Row) (x : Refusal) → within large small ≡ true → Listed small x → Listed large x
+pub wider : (large small : List Row) (x : Refusal) → within large small ≡ true → Listed small x → Listed large x
 wider large small x w p = record { listed = one-within large small (x .section) (x .number) w (p .listed); placed = p .placed; within = p .within }
 
 -- ---- outcomes whose refusal, if they are one, is listed
@@ -98,7 +98,7 @@ Refuses table (read vs) = Unit {0}
 refusal-listed : (table : List Row) (o : Outcome) (x : Refusal) → Refuses table o → refusedBy x ≡ o → Listed table x
 refusal-listed table o x p e = subst (λ (o : Outcome). Refuses table o) (sym e) p
 
-refuses-wider : (large small : List Row) (o : Outcome) → within large small ≡ true → Refuses small o → Refuses large o
+pub refuses-wider : (large small : List Row) (o : Outcome) → within large small ≡ true → Refuses small o → Refuses large o
 refuses-wider large small (refused number section place) w p = wider large small (record { number = number; section = section; place = place }) w p
 refuses-wider large small (read vs) w p = tt
 

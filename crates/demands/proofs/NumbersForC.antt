@@ -1,0 +1,183 @@
+-- Each entry for C answers 0, or a refusal with a number from document 01; two refusals with one number are one.
+-- Assumes nothing.
+use Prim.Native.Nat.{ℕ, _≤_, _<_}
+use native.Mathlib.Omega.{arith}
+use mathlib.Core.Path.{_≡_, refl, sym, subst⁻¹}
+use mathlib.Core.Logic.{inl, inr}
+use mathlib.Core.Bool.{Bool, true, false, cond, true≢false, _&&_}
+use mathlib.Core.List.{List, [], _∷_}
+use lib.Dec.{eqb, ltb, leb}
+use lib.IntN.{ℤ}
+use lib.ListN.{length}
+use borrow.Author.Tests.{leb-true, eqb-true, eq-eqb}
+use Rattle.octets.specs.Octets.{beAt}
+use Rattle.layout.specs.Fields.{Value, plain}
+use Rattle.layout.specs.Outcomes.{Outcome, refused, read}
+use Rattle.layout.specs.declared.Refusal.{Refusal}
+use Rattle.layout.proofs.Ranges.{both-hold}
+use Rattle.identification.specs.Section1.{outcome₁}
+use Rattle.grid.specs.Section3.{outcome₃}
+use Rattle.product.specs.Section4.{outcome₄}
+use Rattle.packing.specs.Section5.{outcome₅}
+use Rattle.packing.specs.Unpacking.{unpackOutcome}
+use Rattle.shelf.specs.declared.Shelf.{Shelf}
+use Rattle.shelf.specs.Shelves.{slotAt}
+use Rattle.shelf_octets.specs.ShelfOctets.{shelfIn, octetsOf}
+use Rattle.filing.specs.declared.Answer.{Answer}
+use Rattle.filing.specs.declared.Answer.the-variants.{Kept, Passed, Refused as refusedField}
+use Rattle.filing.specs.Filing.{filedOf}
+use Rattle.queue.specs.Records.{issueFrom}
+use Rattle.queue.specs.declared.QueueAnswer.{QueueAnswer}
+use Rattle.queue.specs.declared.QueueAnswer.the-variants.{Filed as filedAll, Refused as refusedAll}
+use Rattle.queue.specs.Queues.{queueFiled}
+use Rattle.refusals.specs.Refusals.{Row, oneOf, numbersOf, Listed, numbers₁, numbers₃, numbers₄, numbers₅, table₁, table₃, table₄, table₅, unpackTable, filingTable, queueTable}
+use Rattle.refusals.proofs.RefusalNumbers.{Refuses, wider, refuses-wider, head-refuses, refuses₁, refuses₃, refuses₄, refuses₅, unpack-refuses, filing-refuses, queue-refuses}
+use Rattle.skogmund.specs.Entries.{code, codeOf, coded, over, fits, ListInto}
+use Rattle.skogmund.specs.Parts.{PartInto}
+use Rattle.skogmund.specs.Records.{sectionOutcome, outcome₇alone, intoRow, ReadInto}
+use Rattle.skogmund.specs.Shelves.{noRoom, isShelf, done, emptied, joined, filed, keptIn, fieldKept, filedField, queueKept, filedQueue, slotValues, shown, slotShown}
+use Rattle.skogmund.proofs.Answered.{taken-apart}
+use Rattle.demands.specs.NumbersForC.{Answers, octetSections, roomTable, slotTable, readTable, fileTable, fileQueueTable}
+
+-- ---- one number, one refusal
+
+small-section : (table : List Row) (section number : ℕ) → octetSections table ≡ true → oneOf (numbersOf table section) number ≡ true → section < 256
+small-section [] section number o e = absurd (true≢false (sym e))
+small-section (r ∷ rs) section number o e =
+    let parts = both-hold _ _ o in
+    by (eqb section (r .section)) refl (leb-true _ _ (parts .0)) (small-section rs section number (parts .1)) e
+  where
+    by : (t : Bool) → eqb section (r .section) ≡ t → r .section ≤ 255 → (oneOf (numbersOf rs section) number ≡ true → section < 256) → oneOf (cond t (r .numbers) (numbersOf rs section)) number ≡ true → section < 256
+    by true h small rest e = omega (arith, eqb-true section (r .section) h)
+    by false h small rest e = rest e
+
+pub one-refusal : (table : List Row) (x y : Refusal) → octetSections table ≡ true → Listed table x → Listed table y → codeOf x ≡ codeOf y → x ≡ y
+one-refusal table x y o p q e =
+    let same = taken-apart _ _ _ _ _ _ (small-section table _ _ o (p .listed)) (small-section table _ _ o (q .listed)) (omega (arith, p .within)) (omega (arith, q .within)) e in
+    λ i. record { number = same .0 i; section = same .1 i; place = same .2 i }
+
+-- ---- sections
+
+of-outcome : (table : List Row) (o : Outcome) (answer : ℕ) → Refuses table o → answer ≡ coded o → Answers table answer
+of-outcome table (refused number section place) answer r e = inr (record { number = number; section = section; place = place }, e, r)
+of-outcome table (read vs) answer r e = inl e
+
+pub unpack-answers : (five seven row : List ℕ) (answer : ℕ) → answer ≡ coded (unpackOutcome five seven row) → Answers unpackTable answer
+unpack-answers five seven row answer e = of-outcome unpackTable (unpackOutcome five seven row) answer (unpack-refuses five seven row) e
+
+-- 4 is a number of every section
+four : (a b c d e f g : Bool) → g ≡ true
+    → oneOf (cond a numbers₁ (cond b numbers₃ (cond c numbers₄ (cond d numbers₅ (cond e (1 ∷ 2 ∷ 3 ∷ 4 ∷ []) (cond f (4 ∷ 18 ∷ []) (cond g (4 ∷ []) []))))))) 4 ≡ true
+four true b c d e f g h = refl
+four false true c d e f g h = refl
+four false false true d e f g h = refl
+four false false false true e f g h = refl
+four false false false false true f g h = refl
+four false false false false false true g h = refl
+four false false false false false false true h = refl
+four false false false false false false false h = absurd (true≢false (sym h))
+
+section-refuses : (section : ℕ) (s : List ℕ) → Refuses (readTable section) (sectionOutcome section s)
+unfolding sectionOutcome outcome₇alone
+section-refuses section s =
+    let seven = read (plain (beAt s 1 4) ∷ plain (beAt s 5 1) ∷ []) in
+    let t = readTable section in
+    by (eqb section 1) _ _ (refuses-wider t table₁ (outcome₁ s) refl (refuses₁ s))
+    (by (eqb section 3) _ _ (refuses-wider t table₃ (outcome₃ s) refl (refuses₃ s))
+    (by (eqb section 4) _ _ (refuses-wider t table₄ (outcome₄ s) refl (refuses₄ s))
+    (by (eqb section 5) _ _ (refuses-wider t table₅ (outcome₅ s) refl (refuses₅ s))
+    (by (eqb section 7) _ (refused 4 section 0) (head-refuses t 7 s seven refl tt) (record { listed = four (eqb section 1) (eqb section 3) (eqb section 4) (eqb section 5) (eqb section 7) (eqb section 0) (eqb section section) (eq-eqb section section refl); placed = refl; within = omega arith })))))
+  where
+    by : (t : Bool) (a b : Outcome) → Refuses (readTable section) a → Refuses (readTable section) b → Refuses (readTable section) (cond t a b)
+    by true a b p q = p
+    by false a b p q = q
+
+pub read-answers : (section : ℕ) (s : List ℕ) (row : List ℤ) (answer : ℕ) (row′ : List ℤ) → ReadInto section s row answer row′ → Answers (readTable section) answer
+unfolding intoRow
+read-answers section s row answer row′ p = of-outcome (readTable section) (intoRow (sectionOutcome section s) row) answer (by (sectionOutcome section s) (section-refuses section s)) (p .answers)
+  where
+    by-room : (t : Bool) (vs : List Value) → Refuses (readTable section) (cond t (refused 18 0 0) (read vs))
+    by-room true vs = record { listed = refl; placed = refl; within = omega arith }
+    by-room false vs = tt
+
+    by : (o : Outcome) → Refuses (readTable section) o → Refuses (readTable section) (intoRow o row)
+    by (refused number section′ place) r = r
+    by (read vs) r = by-room (ltb (length row) 64) vs
+
+-- ---- refusals of what is lent
+
+-- of no section and no place
+abbrev plainly : ℕ → Refusal
+plainly number = record { number = number; section = 0; place = 0 }
+
+no-room : (table : List Row) → oneOf (numbersOf table 0) 18 ≡ true → Answers table noRoom
+no-room table e = inr (plainly 18, refl, record { listed = e; placed = refl; within = omega arith })
+
+pub part-answers : (part : ℕ) (s : List ℕ) (k : ℕ) (places : List ℕ) (answer : ℕ) (places′ : List ℕ) → PartInto part s k places answer places′ → Answers roomTable answer
+part-answers part s k places answer places′ p = subst⁻¹ (Answers roomTable) (p .answers) (by (ltb (length places) 2))
+  where
+    by : (t : Bool) → Answers roomTable (cond t (code 18 0 0) 0)
+    by true = no-room roomTable refl
+    by false = inl refl
+
+pub list-answers : (q text places : List ℕ) (answer : ℕ) (text′ places′ : List ℕ) → ListInto q text places answer text′ places′ → Answers roomTable answer
+list-answers q text places answer text′ places′ p = subst⁻¹ (Answers roomTable) (p .answers) (by (fits q text places))
+  where
+    by : (t : Bool) → Answers roomTable (cond t 0 (code 18 0 0))
+    by true = inl refl
+    by false = no-room roomTable refl
+
+done-answers : (t : Bool) (s after : List ℕ) → Answers roomTable (cond t (done 0 after) (done noRoom s) .answer)
+done-answers true s after = inl refl
+done-answers false s after = no-room roomTable refl
+
+pub empty-answers : (s : List ℕ) → Answers roomTable (emptied s .answer)
+unfolding emptied
+empty-answers s = done-answers (isShelf s) s _
+
+pub join-answers : (s other : List ℕ) → Answers roomTable (joined s other .answer)
+unfolding joined
+join-answers s other = done-answers (isShelf s && isShelf other) s _
+
+pub slot-answers : (s : List ℕ) (slot : ℕ) (values : List ℤ) → Answers slotTable (slotShown s slot values .answer)
+unfolding slotShown
+slot-answers s slot values = by (ltb 63 slot) (isShelf s && leb 64 (length values)) (over values (slotValues (slotAt (shelfIn s) slot)))
+  where
+    by : (t u : Bool) (l : List ℤ) → Answers slotTable (cond t (shown (code 16 0 0) values) (cond u (shown 0 l) (shown noRoom values)) .answer)
+    by true u l = inr (plainly 16, refl, record { listed = refl; placed = refl; within = omega arith })
+    by false true l = inl refl
+    by false false l = no-room slotTable refl
+
+-- ---- filing
+
+keep-answers : (table : List Row) (s places : List ℕ) (after : Shelf) (ns : List ℕ) → oneOf (numbersOf table 0) 18 ≡ true → Answers table (keptIn s places after ns .answer)
+unfolding keptIn
+keep-answers table s places after ns e = by (isShelf s && leb (length ns) (length places)) (octetsOf after) (over places ns)
+  where
+    by : (t : Bool) (o l : List ℕ) → Answers table (cond t (filed 0 o l) (filed noRoom s places) .answer)
+    by true o l = inl refl
+    by false o l = no-room table e
+
+pub field-answers : (s : List ℕ) (slot stored : ℕ) (s1 s3 s4 s5 s7 places : List ℕ) → Answers fileTable (filedField s slot stored s1 s3 s4 s5 s7 places .answer)
+unfolding filedField fieldKept
+field-answers s slot stored s1 s3 s4 s5 s7 places =
+    by-number (ltb 4294967296 stored) (filedOf (shelfIn s) slot (issueFrom stored) s1 s3 s4 s5 s7 .shelf) (filedOf (shelfIn s) slot (issueFrom stored) s1 s3 s4 s5 s7 .answer)
+    (λ x e. wider fileTable filingTable x refl (filing-refuses (shelfIn s) slot (issueFrom stored) s1 s3 s4 s5 s7 x e))
+  where
+    by-answer : (after : Shelf) (a : Answer) → ((x : Refusal) → a ≡ refusedField x → Listed fileTable x) → Answers fileTable (fieldKept s places after a .answer)
+    by-answer after (refusedField x) f = inr (x, refl, f x refl)
+    by-answer after Kept f = keep-answers fileTable s places after (1 ∷ []) refl
+    by-answer after Passed f = keep-answers fileTable s places after (0 ∷ []) refl
+
+    by-number : (t : Bool) (after : Shelf) (a : Answer) → ((x : Refusal) → a ≡ refusedField x → Listed fileTable x) → Answers fileTable (cond t (filed (code 19 0 0) s places) (fieldKept s places after a) .answer)
+    by-number true after a f = inr (plainly 19, refl, record { listed = refl; placed = refl; within = omega arith })
+    by-number false after a f = by-answer after a f
+
+pub queue-answers : (s q places : List ℕ) → Answers fileQueueTable (filedQueue s q places .answer)
+unfolding filedQueue queueKept
+queue-answers s q places =
+    by (queueFiled (shelfIn s) q .shelf) (queueFiled (shelfIn s) q .answer) (λ x e. wider fileQueueTable queueTable x refl (queue-refuses (shelfIn s) q x e))
+  where
+    by : (after : Shelf) (a : QueueAnswer) → ((x : Refusal) → a ≡ refusedAll x → Listed fileQueueTable x) → Answers fileQueueTable (queueKept s places after a .answer)
+    by after (refusedAll x) f = inr (x, refl, f x refl)
+    by after (filedAll n) f = keep-answers fileQueueTable s places after (n .kept ∷ n .passed ∷ n .refused ∷ []) refl

@@ -1,0 +1,44 @@
+-- With which of document 01's numbers an entry for C refuses: those of what it calls, 18 where there is no room, and 19 for a number.
+-- Assumes nothing.
+use Prim.Native.Nat.{ℕ}
+use mathlib.Core.Path.{_≡_}
+use mathlib.Core.Logic.{_⊎_}
+use mathlib.Core.Bool.{Bool, true, _&&_}
+use mathlib.Core.List.{List, [], _∷_}
+use lib.Dec.{leb}
+use Rattle.layout.specs.declared.Refusal.{Refusal}
+use Rattle.refusals.specs.Refusals.{Row, row, Listed, numbers₁, numbers₃, numbers₄, numbers₅, laterRows}
+use Rattle.skogmund.specs.Entries.{codeOf}
+
+-- none, or a refusal that the table lists
+abbrev pub Answers : List Row → ℕ → Type 0
+Answers table answer = (answer ≡ 0) ⊎ ((x : Refusal) × (answer ≡ codeOf x) × Listed table x)
+
+-- each section of a table is one octet
+abbrev pub octetSections : List Row → Bool
+octetSections [] = true
+octetSections (r ∷ rs) = leb (r .section) 255 && octetSections rs
+
+abbrev pub roomTable : List Row
+roomTable = row 0 (18 ∷ []) ∷ []
+
+abbrev pub slotTable : List Row
+slotTable = row 0 (16 ∷ 18 ∷ []) ∷ []
+
+-- section 7 alone knows 1 to 4 only, and another section number is 4
+abbrev pub readTable : ℕ → List Row
+readTable section =
+    row 1 numbers₁
+    ∷ row 3 numbers₃
+    ∷ row 4 numbers₄
+    ∷ row 5 numbers₅
+    ∷ row 7 (1 ∷ 2 ∷ 3 ∷ 4 ∷ [])
+    ∷ row 0 (4 ∷ 18 ∷ [])
+    ∷ row section (4 ∷ [])
+    ∷ []
+
+abbrev pub fileTable : List Row
+fileTable = row 0 (16 ∷ 18 ∷ 19 ∷ []) ∷ row 1 (17 ∷ numbers₁) ∷ laterRows
+
+abbrev pub fileQueueTable : List Row
+fileQueueTable = row 0 (2 ∷ 18 ∷ 19 ∷ []) ∷ []
