@@ -2,10 +2,10 @@
 -- Assumes nothing.
 use Prim.Native.Nat.{ℕ, _+_, _≤_}
 use native.Mathlib.Omega.{arith}
-use mathlib.Core.Path.{_≡_, refl, sym, ap, ap₂, _∙_}
-use mathlib.Core.List.{List, [], _∷_, _++_, append-nil}
+use mathlib.Core.Path.{_≡_, sym, ap, ap₂, _∙_}
+use mathlib.Core.List.{List, [], _++_, append-nil}
 use lib.IntN.{ℤ}
-use lib.ListN.{length, take, drop, set, drop-of-length-le}
+use lib.ListN.{length, take, drop, drop-of-length-le}
 use lib.Seq.{sets, sets-eq, take-at, drop-append-add, drop-drop}
 use Rattle.shelf.specs.declared.Shelf.{Shelf}
 use Rattle.shelf_octets.specs.ShelfOctets.{octetsOf}
@@ -21,13 +21,6 @@ written-over s x long e =
     let fits : length t ≤ length s = omega (arith, shelf-length x) in
     let none : drop (length t) s ≡ [] = drop-of-length-le s {i = length t} (omega (arith, shelf-length x)) in
     ap (λ (w : Written). w .octets) (e ∙ append-whole s t fits) ∙ ap (λ (l : List ℕ). t ++ l) none ∙ append-nil t
-
--- three numbers, one after the other
-pub three-set : (l : List ℕ) (a b c : ℕ) → 3 ≤ length l → set (set (set l 0 a) 1 b) 2 c ≡ a ∷ b ∷ c ∷ drop 3 l
-three-set [] a b c h = absurd (omega arith)
-three-set (x ∷ []) a b c h = absurd (omega arith)
-three-set (x ∷ y ∷ []) a b c h = absurd (omega arith)
-three-set (x ∷ y ∷ z ∷ l) a b c h = refl
 
 -- the first eight values of a card, and then those of its product from place 8 on
 pub card-over : (l vs m : List ℤ) → length vs ≡ 8 → 64 ≤ length l → take 8 (sets l 0 vs) ++ (m ++ drop 35 (sets l 0 vs)) ≡ vs ++ (m ++ drop 35 l)

@@ -2,13 +2,15 @@
 -- Assumes nothing.
 use mathlib.Core.Path.{ap₂}
 use native.Mathlib.Omega.{arith}
+use mathlib.Core.List.{[], _∷_}
 use lib.ListN.{length-set}
+use lib.Seq.{sets-eq}
 use borrow.Author.Needs.{needs}
 use borrow.Author.Tests.{eq-eqb, ne-eqb, le-leb, lt-leb}
 use denote.Ref.{now}
 use Rattle.octets.proofs.Free.{free}
 use Rattle.skogmund.specs.Shelves.{filed, keptIn}
-use Rattle.skogmund.proofs.Kept.{written-over, three-set}
+use Rattle.skogmund.proofs.Kept.{written-over}
 use Rattle.skogmund.proofs.shelves.keep_counts.Statement.{statement}
 use Rattle.skogmund.proofs.shelves.keep_counts.Tie as tie
 
@@ -33,7 +35,7 @@ returns-3 c =
     simp (eq-eqb _ _ (e1 .if1 .left), le-leb 3 _ (e2 .if2 .left))
     (ap₂ (filed 0)
     (written-over (now (a .shelf)) (a .after) (e1 .if1 .left) (w .write .ensures))
-    (three-set (now (a .counts)) _ _ _ (e2 .if2 .left)))
+    (sets-eq (a .n .kept ∷ a .n .passed ∷ a .n .refused ∷ []) (now (a .counts)) 0 (e2 .if2 .left)))
 
 pub keep-counts-spec : {M : Type 1} → statement M
 keep-counts-spec =

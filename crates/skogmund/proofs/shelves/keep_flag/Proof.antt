@@ -1,10 +1,11 @@
 -- `keep_flag`: the shelf and one number, or 18.
 -- Assumes nothing.
-use Prim.Native.Nat.{ℕ, _≤_}
-use mathlib.Core.Path.{_≡_, refl, ap₂}
-use mathlib.Core.List.{List, [], _∷_}
+use Prim.Native.Nat.{_≤_}
+use mathlib.Core.Path.{ap₂}
+use mathlib.Core.List.{[], _∷_}
 use native.Mathlib.Omega.{arith}
-use lib.ListN.{length, drop, set}
+use lib.ListN.{length}
+use lib.Seq.{sets-eq}
 use borrow.Author.Needs.{needs}
 use borrow.Author.Tests.{eq-eqb, ne-eqb, le-leb}
 use denote.Ref.{now}
@@ -13,10 +14,6 @@ use Rattle.skogmund.specs.Shelves.{filed, keptIn}
 use Rattle.skogmund.proofs.Kept.{written-over}
 use Rattle.skogmund.proofs.shelves.keep_flag.Statement.{statement}
 use Rattle.skogmund.proofs.shelves.keep_flag.Tie as tie
-
-first-set : (l : List ℕ) (n : ℕ) → 1 ≤ length l → set l 0 n ≡ n ∷ drop 1 l
-first-set [] n h = absurd (omega arith)
-first-set (x ∷ l) n h = refl
 
 returns : tie.Need-returns
 unfolding keptIn
@@ -37,7 +34,7 @@ returns-3 c =
     simp (eq-eqb _ _ (e1 .if1 .left), le-leb 1 _ some)
     (ap₂ (filed 0)
     (written-over (now (a .shelf)) (a .after) (e1 .if1 .left) (w .write .ensures))
-    (first-set (now (a .kept)) (a .flag) some))
+    (sets-eq (a .flag ∷ []) (now (a .kept)) 0 some))
 
 pub keep-flag-spec : {M : Type 1} → statement M
 keep-flag-spec = tie.close (tie.spec returns returns-2 free (λ c. search needs) (λ c. search needs) (λ c. search needs) returns-3)
