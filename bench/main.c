@@ -4,21 +4,12 @@
 #include <eccodes.h>
 #include <grib2.h>
 #include <stdio.h>
-#include <stdlib.h>
-
-/* An emulator slows each kind of work in another way, so its ratios say little about those of a processor. */
-static void say_emulated(void) {
-    const char *under = getenv("SKOGMUND_BENCH_UNDER");
-    if (under == NULL || *under == 0) return;
-    printf("**Not run by the processor itself but under another command: neither the times nor the ratios are those of a processor.**\n\n");
-}
 
 int main(void) {
     long v = codes_get_api_version();
     printf("# Times beside ecCodes %ld.%ld.%ld and g2c %s\n\n", v / 10000, v / 100 % 100, v % 100, G2_VERSION);
     printf("A ratio below 1 says that ours is the faster one. Each number is the best of %u rounds of at least %.0f ms.\n\n", round_count(),
            round_milliseconds());
-    say_emulated();
     bench_unpacking();
     bench_reading();
     bench_queues();

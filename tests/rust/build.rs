@@ -1,6 +1,5 @@
-//! Links `libskogmund.a` from the directory in SKOGMUND_LIB, or else from `target/staticlib` of the repository. Without a
-//! library the cfg `no_library` leaves out what needs it, so that the reference's own tests still run. So it is on other processors than
-//! x86-64, for which `rt staticlib` compiles, unless a library is named.
+//! Links `libskogmund.a` from the directory in SKOGMUND_LIB, or else from the one in which `tools/library` writes it for this
+//! processor. Without a library the cfg `no_library` leaves out what needs it, so that the reference's own tests still run.
 use std::env;
 use std::path::PathBuf;
 
@@ -12,7 +11,11 @@ fn library_directory() -> PathBuf {
     match env::var_os("SKOGMUND_LIB") {
         // A relative directory is the package's, not that of whoever called cargo.
         Some(named) => package.join(named),
-        None => package.join("../../target/staticlib"),
+        // `rt staticlib` compiles for x86-64 only.
+        None if env::var("CARGO_CFG_TARGET_ARCH").as_deref() == Ok("x86_64") => {
+            package.join("../../target/staticlib")
+        }
+        None => package.join("../../target/here"),
     }
 }
 
@@ -23,8 +26,7 @@ fn main() {
     println!("cargo::rerun-if-env-changed=SKOGMUND_LIB");
     println!("cargo::rerun-if-changed={}", archive.display());
     let named = env::var_os("SKOGMUND_LIB").is_some();
-    let fits = named || env::var("CARGO_CFG_TARGET_ARCH").as_deref() == Ok("x86_64");
-    if archive.is_file() && fits {
+    if archive.is_file() {
         println!("cargo::rustc-link-search=native={}", directory.display());
         println!("cargo::rustc-link-lib=static=skogmund");
     } else if named {
