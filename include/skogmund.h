@@ -59,8 +59,8 @@ uint64_t skogmund_list(const uint8_t *queue, size_t n, uint8_t *text, size_t pla
    is 0 for an empty slot, all of which is 0 then, and otherwise 1; 2-5 the real year + 2^31; 6 to 10 month, day, hour, minute, second; 11-14
    the issue; 15-41 octets 8-34 of section 4. Numbers are big-endian.
 
-   Any octets are a shelf: any octet 1 but 0 says that the slot holds a card, nothing else is looked at in an empty slot, and no value is
-   checked, so that a month of 200 is compared and shown as it is. Where an entry changes a shelf and answers 0 it writes all of it in the form
+   Any octets are a shelf: a slot holds a card where its octet 1 is 1 and is empty where it is anything else, nothing else is looked at in an
+   empty slot, and no value is checked, so that a month of 200 is compared and shown as it is. Where an entry changes a shelf and answers 0 it writes all of it in the form
    above, also where no slot holds another card than before. A shelf of another length is 18, after all other refusals. */
 #define SKOGMUND_SHELF 2624
 

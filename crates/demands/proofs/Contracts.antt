@@ -11,7 +11,7 @@ use Rattle.packing.specs.Section5 as five
 use Rattle.packing.specs.Section7 as seven
 use Rattle.packing.specs.Unpacking.{Unpacks, unpackOutcome, rowAfter}
 use Rattle.field.specs.Field as field
-use Rattle.shelf.specs.Shelves.{emptyShelf, putOf, joinShelf}
+use Rattle.shelf.specs.Shelves.{emptyShelf, slotAt, putOf, joinShelf}
 use Rattle.filing.specs.Filing.{filedOf}
 use Rattle.filing.specs.declared.Issue.the-variants.{NotNamed}
 use Rattle.queue.specs.Queues.{recordIn, recordFiled, queueFiled}
@@ -47,6 +47,7 @@ use Rattle.queue.proofs.file.Reads as file-queue
 use Rattle.report.proofs.whole_listing.Reads as whole-listing
 use Rattle.report.proofs.whole_explanation.Reads as whole-explanation
 use Rattle.shelf_octets.proofs.read.Reads as octets-read
+use Rattle.shelf_octets.proofs.slot_of.Reads as octets-slot-of
 use Rattle.shelf_octets.proofs.write.Reads as octets-write
 use Rattle.skogmund.proofs.skogmund_unpack.Reads as skogmund-unpack
 use Rattle.skogmund.proofs.skogmund_list.Reads as skogmund-list
@@ -138,6 +139,10 @@ skogmund-tells-record lent given r later e = e
 
 pub shelf-octets-read : (lent : _) (given : _) (r : _) (later : _) → octets-read.Learnt lent given r later → r ≡ shelfIn (now (given .0))
 shelf-octets-read lent given r later e = e
+
+pub shelf-octets-slot-of : (lent : _) (given : _) (r : _) (later : _) → octets-slot-of.Learnt lent given r later
+    → r ≡ slotAt (shelfIn (now (given .0))) (given .1 .0)
+shelf-octets-slot-of lent given r later e = e
 
 pub shelf-octets-write : (lent : _) (given : _) (r : _) (later : _) → octets-write.Learnt lent given r later → written (now (later .0)) r ≡ append (written (now (given .0)) 0) (octetsOf (given .1 .0))
 shelf-octets-write lent given r later e = e

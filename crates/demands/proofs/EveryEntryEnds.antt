@@ -109,6 +109,8 @@ use Rattle.shelf.proofs.join.Statement as shelf-join
 use Rattle.shelf.proofs.join.Met as shelf-join-met
 use Rattle.shelf_octets.proofs.read.Statement as shelf-octets-read
 use Rattle.shelf_octets.proofs.read.Met as shelf-octets-read-met
+use Rattle.shelf_octets.proofs.slot_of.Statement as shelf-octets-slot-of
+use Rattle.shelf_octets.proofs.slot_of.Met as shelf-octets-slot-of-met
 use Rattle.shelf_octets.proofs.write.Statement as shelf-octets-write
 use Rattle.shelf_octets.proofs.write.Met as shelf-octets-write-met
 use Rattle.filing.proofs.file_by_value.Statement as filing-file-by-value
@@ -359,6 +361,9 @@ shelf-join-ends = shelf-join-met.met
 
 pub shelf-octets-read-ends : {M : Type 1} → shelf-octets-read.statement M
 shelf-octets-read-ends = shelf-octets-read-met.met
+
+pub shelf-octets-slot-of-ends : {M : Type 1} → shelf-octets-slot-of.statement M
+shelf-octets-slot-of-ends = shelf-octets-slot-of-met.met
 
 pub shelf-octets-write-ends : {M : Type 1} → shelf-octets-write.statement M
 shelf-octets-write-ends = shelf-octets-write-met.met

@@ -64,6 +64,7 @@ use Rattle.shelf.proofs.slot_of.Reads as shelf-slot-of
 use Rattle.shelf.proofs.put.Reads as shelf-put
 use Rattle.shelf.proofs.join.Reads as shelf-join
 use Rattle.shelf_octets.proofs.read.Reads as shelf-octets-read
+use Rattle.shelf_octets.proofs.slot_of.Reads as shelf-octets-slot-of
 use Rattle.shelf_octets.proofs.write.Reads as shelf-octets-write
 use Rattle.filing.proofs.file_by_value.Reads as filing-file-by-value
 use Rattle.filing.proofs.file as filing-file
@@ -281,6 +282,9 @@ shelf-join-takes lent given = tt
 
 pub shelf-octets-read-takes : TakesEvery shelf-octets-read.Asked
 shelf-octets-read-takes lent given = tt
+
+pub shelf-octets-slot-of-takes : TakesEvery shelf-octets-slot-of.Asked
+shelf-octets-slot-of-takes lent given = tt
 
 pub shelf-octets-write-takes : TakesEvery shelf-octets-write.Asked
 shelf-octets-write-takes lent given = tt

@@ -6,10 +6,11 @@ use mathlib.Core.List.{List, [], _∷_, _++_}
 use Prim.Native.Nat.{ℕ, zero, suc, _+_, _*_, _≤_, _<_}
 use native.Mathlib.Decide.{ℕ-discrete}
 use native.Mathlib.Omega.{arith}
+use native.Mathlib.Nat.{not-suc-le-zero, le-of-suc-le-suc}
 use native.Mathlib.Numerals.{add-one}
 use lib.Dec.{eqb}
 use lib.ListN.{length, take, drop, replicate, getD, length-append, getD-replicate, replicate-append-replicate}
-use lib.Seq.{take-at, drop-at, take-all, drop-cons}
+use lib.Seq.{take-at, drop-at, take-all, drop-cons, drop-drop}
 use Rattle.octets.specs.Octets.{beAt, part, be, digits, AllOctets}
 use Rattle.octets.proofs.Laws.{part-length, part-all, part-behind, beAt-one, beAt-below, take-octets, drop-octets}
 use Rattle.octets.proofs.Digits.{beAt-digits}
@@ -60,10 +61,20 @@ empty-zeros = empty-from 0 64 (omega arith)
 
 -- ---- whatever octets there are read as a shelf
 
-slots-length : (more : ℕ) (o : List ℕ) → length (slotsIn more o) ≡ more
+pub slots-length : (more : ℕ) (o : List ℕ) → length (slotsIn more o) ≡ more
 unfolding slotsIn
 slots-length zero o = refl
 slots-length (suc more) o = ap suc (slots-length more (drop 41 o))
+
+-- a slot's octets stand behind those of the slots before it
+pub slot-of : (more n : ℕ) (o : List ℕ) → n < more → getD (slotsIn more o) n blank ≡ slotIn (take 41 (drop (41 * n) o))
+unfolding slotsIn
+slot-of zero n o h = absurd (not-suc-le-zero h)
+slot-of (suc more) zero o h = refl
+slot-of (suc more) (suc n) o h =
+    let further : 41 + 41 * n ≡ 41 * suc n = omega arith in
+    slot-of more n (drop 41 o) (le-of-suc-le-suc h)
+    ∙ ap (λ (s : List ℕ). slotIn (take 41 s)) (drop-drop (41 * n) 41 o ∙ ap (λ (k : ℕ). drop k o) further)
 
 -- what holds of the blank slot and of each that octets say holds of every slot of theirs
 each-slot : (P : List ℕ → Type 0) (Q : Slot → Type 0) → ((o : List ℕ) → P o → P (take 41 o)) → ((o : List ℕ) → P o → P (drop 41 o))
@@ -76,11 +87,11 @@ each-slot P Q front behind one none (suc more) (suc n) o p = each-slot P Q front
 -- a slot that octets say is blank, or holds the card that they say
 one-slot : (Q : Slot → Type 0) (o : List ℕ) → Q blank → Q (holding (cardIn o)) → Q (slotIn o)
 unfolding slotIn
-one-slot Q o none some = by-first (eqb (beAt o 1 1) 0)
+one-slot Q o none some = by-first (eqb (beAt o 1 1) 1)
   where
-    by-first : (t : Bool) → Q (cond t blank (holding (cardIn o)))
-    by-first true = none
-    by-first false = some
+    by-first : (t : Bool) → Q (cond t (holding (cardIn o)) blank)
+    by-first true = some
+    by-first false = none
 
 pub tidy-in : (o : List ℕ) → Tidy (shelfIn o)
 tidy-in o =

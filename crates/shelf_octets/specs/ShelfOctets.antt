@@ -39,9 +39,9 @@ cardIn o =
       product = part o 15 27;
     }
 
--- any octet 1 but 0 says that a card is held, and nothing else is looked at in an empty slot
+-- octet 1 is 1 where a card is held; any other number is an empty slot, in which nothing else is looked at
 unfoldable pub slotIn : List ℕ → Slot
-slotIn o = cond (eqb (beAt o 1 1) 0) blank (holding (cardIn o))
+slotIn o = cond (eqb (beAt o 1 1) 1) (holding (cardIn o)) blank
 
 -- so many slots, one after the other
 unfoldable pub slotsIn : ℕ → List ℕ → List Slot

@@ -1,6 +1,7 @@
 // A shelf as octets, to be stored or sent to another trailer. Any octets are a shelf.
 ghost use mathlib.Core.Path.{_≡_};
 ghost use Rattle.octets.specs.Octets.{digits};
+ghost use Rattle.shelf.specs.Shelves.{slotAt};
 ghost use Rattle.text.specs.Text.{written, append};
 ghost use Rattle.shelf_octets.specs.ShelfOctets.{yearIn, rawYear, cardIn, slotIn, shelfIn, octetsOfCard, octetsOfSlot, octetsOf};
 use card::Card;
@@ -14,17 +15,28 @@ pub fn read(octets: &[u8]) -> Shelf
     let mut shelf = Shelf::empty();
     let mut i: usize = 0;
     while i < 64 {
-        let slot = slot_in(octets::part_after(octets, 41 * i, 41));
+        let slot = slot_of(octets, i);
         shelf.slots[i] = slot;
         i += 1;
     }
     shelf
 }
 
+// What one slot of that shelf holds, without reading the others. Past slot 63 there is none.
+pub fn slot_of(octets: &[u8], slot: usize) -> Slot
+    ensures { λ r. ⌜ r ≡ slotAt (shelfIn (now (octets .entry))) slot ⌝ }
+{
+    if 63 < slot {
+        return shelf::blank_slot();
+    }
+    slot_in(octets::part_after(octets, 41 * slot, 41))
+}
+
+// Octet 1 is 1 or the slot is empty: other numbers are for what a later make may store there, which this one can't compare.
 fn slot_in(octets: &[u8]) -> Slot
     ensures { λ r. ⌜ r ≡ slotIn (now (octets .entry)) ⌝ }
 {
-    if octets::u8_at(octets, 1) == 0 {
+    if octets::u8_at(octets, 1) != 1 {
         return shelf::blank_slot();
     }
     let card = card_in(octets);

@@ -213,20 +213,21 @@ fn joining_goes_slot_by_slot() {
     assert_eq!(days, [None, Some(7), Some(8), Some(1), None]);
 }
 
-/// An octet 1 other than 0 and 1, and what is not looked at in an empty slot, are written anew by whatever changes a shelf.
+/// A slot is held by an octet 1 of 1 alone. Octets that are not looked at in an empty slot are written anew by whatever changes a shelf.
 #[test]
 fn any_octets_are_a_shelf() {
     let mut shelf = vec![0xff; SHELF_OCTETS];
+    shelf[0] = 1;
     shelf[SLOT_OCTETS] = 0;
+    shelf[2 * SLOT_OCTETS] = 2;
     assert_eq!(held(&shelf, 0)[..2], [2_147_483_647, 255]);
-    assert_eq!(held(&shelf, 1), []);
+    for slot in 1..4 {
+        assert_eq!(held(&shelf, slot), []);
+    }
     assert_eq!(entries::join(&mut shelf, &empty_shelf()), Answer::Done);
-    let mut expected = vec![0xff; SHELF_OCTETS];
-    expected
-        .iter_mut()
-        .step_by(SLOT_OCTETS)
-        .for_each(|octet| *octet = 1);
-    expected[SLOT_OCTETS..2 * SLOT_OCTETS].fill(0);
+    let mut expected = empty_shelf();
+    expected[..SLOT_OCTETS].fill(0xff);
+    expected[0] = 1;
     assert_eq!(shelf, expected);
 }
 

@@ -8,11 +8,11 @@ use Rattle.shelf_octets.proofs.slot_in.Tie as tie
 
 returns : tie.Need-returns
 unfolding slotIn
-returns c = simp (← c .before .before .u8-at .ensures, eq-eqb _ _ (c .before .if1 .taken)) (c .blank-slot .ensures)
+returns c = simp (← c .before .before .u8-at .ensures, ne-eqb _ _ (c .before .if1 .taken)) (c .blank-slot .ensures)
 
 returns-2 : tie.Need-returns-2
 unfolding slotIn
-returns-2 c = simp (← c .before .before .u8-at .ensures, ne-eqb _ _ (c .before .if1 .left)) (ap holding (c .card-in .ensures))
+returns-2 c = simp (← c .before .before .u8-at .ensures, eq-eqb _ _ (c .before .if1 .left)) (ap holding (c .card-in .ensures))
 
 pub slot-in-spec : {M : Type 1} → statement M
 slot-in-spec = tie.close (tie.spec free free returns free returns-2)

@@ -3,16 +3,16 @@ use super::Rng;
 use crate::reference::shelf::SLOTS;
 use crate::reference::shelf_octets::{SHELF_OCTETS, SLOT_OCTETS};
 
-/// Octet 1: empty, held as an entry writes it, or held by another octet.
+/// Octet 1: held, or empty as an entry writes it or by another octet.
 fn mark(rng: &mut Rng) -> u8 {
-    match rng.below(3) {
+    match rng.below(6) {
         0 => 0,
-        1 => 1,
-        _ => rng.octet(),
+        1 => rng.octet(),
+        _ => 1,
     }
 }
 
-/// Any octets: a slot in three is empty, with what is not looked at behind its octet 1.
+/// Any octets: a slot in three is empty, with what is not looked at behind its octet 1, or nearly all of them are.
 pub fn any_shelf(rng: &mut Rng) -> Vec<u8> {
     let mut shelf = rng.octets(SHELF_OCTETS);
     if rng.percent(80) {

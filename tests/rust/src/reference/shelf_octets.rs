@@ -11,11 +11,11 @@ const HELD: u8 = 1;
 const YEAR_SHIFT: i64 = 1 << 31;
 const PRODUCT_AT: usize = 15;
 
-/// Any octet 1 but 0 says that there is a card; nothing else is looked at in an empty slot.
+/// There is a card where octet 1 is 1; nothing else is looked at in an empty slot.
 fn card_of(slot: &[u8]) -> Option<Card> {
     let at = |first, last| number(slot, first, last) as i64;
     let later = |first| at(first, first);
-    (slot[0] != EMPTY).then(|| Card {
+    (slot[0] == HELD).then(|| Card {
         reference_time: [
             at(2, 5) - YEAR_SHIFT,
             later(6),
@@ -97,11 +97,13 @@ mod tests {
     #[test]
     fn any_octets_are_a_shelf() {
         assert_eq!(SHELF_OCTETS, 2_624);
-        let full = Shelf::of_octets(&[0xff; SHELF_OCTETS]);
+        let full = Shelf::of_octets(&[1; SHELF_OCTETS]);
         assert_eq!(full.held().count(), SLOTS);
-        assert_eq!(full.octets()[..7], [1, 0xff, 0xff, 0xff, 0xff, 0xff, 0xff]);
+        assert_eq!(full.octets(), [1; SHELF_OCTETS]);
+        let empty = Shelf::of_octets(&[2; SHELF_OCTETS]);
+        assert_eq!(empty.held().count(), 0);
         // What an empty slot has behind its octet 1 is nothing.
-        let mut octets = [9; SHELF_OCTETS];
+        let mut octets = [1; SHELF_OCTETS];
         octets[SLOT_OCTETS] = 0;
         let shelf = Shelf::of_octets(&octets);
         assert_eq!(shelf.slots[1], None);
