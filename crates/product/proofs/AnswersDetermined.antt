@@ -71,8 +71,8 @@ toInterval vs = by (getD vs 0 none)
         (record {
           year = natAbs year;
           time = toTime vs 1;
-          ranges = naturalIn (getD vs 6 none);
-          missing = naturalIn (getD vs 7 none);
+          n = naturalIn (getD vs 6 none);
+          «missing_count» = naturalIn (getD vs 7 none);
         })
 
 interval-back : (x : Interval) → toInterval (intervalIn x) ≡ x
@@ -104,7 +104,7 @@ toPart (suc (suc zero)) ahead behind =
       latitude = naturalIn (getD behind 7 none);
       longitude = naturalIn (getD behind 8 none);
       radius = naturalIn (getD behind 9 none);
-      members = naturalIn (getD behind 10 none);
+      nc = naturalIn (getD behind 10 none);
       «deviation_factor» = naturalIn (getD behind 11 none);
       deviation = naturalIn (getD behind 12 none);
       «distance_factor» = naturalIn (getD behind 13 none);
@@ -193,7 +193,7 @@ toProduct vs =
     record {
       length = naturalIn (getD vs 0 none);
       number = naturalIn (getD vs 1 none);
-      coordinates = naturalIn (getD vs 2 none);
+      nv = naturalIn (getD vs 2 none);
       template = naturalIn (getD vs 3 none);
       parameter = record { category = naturalIn (getD vs 5 none); number = naturalIn (getD vs 6 none) };
       process = toProcess common;
@@ -216,7 +216,7 @@ product-back x =
     λ i. record {
       length = x .length;
       number = x .number;
-      coordinates = x .coordinates;
+      nv = x .nv;
       template = x .template;
       parameter = x .parameter;
       process = (ap toProcess skipped ∙ process-back (x .process) (forecastIn (x .forecast) ++ first)) i;

@@ -111,7 +111,7 @@ clusterIn x =
     ∷ plain (x .latitude)
     ∷ plain (x .longitude)
     ∷ plain (x .radius)
-    ∷ plain (x .members)
+    ∷ plain (x .nc)
     ∷ plain (x .«deviation_factor»)
     ∷ plain (x .deviation)
     ∷ plain (x .«distance_factor»)
@@ -142,7 +142,7 @@ unfoldable pub interval : List Field
 interval = present 2 ∷ (time ++ (raw 1 ∷ raw 4 ∷ []))
 
 unfoldable pub endIn : IntervalEnd → List Value
-endIn x = plain (x .year) ∷ (timeIn (x .time) ++ (plain (x .ranges) ∷ plain (x .missing) ∷ []))
+endIn x = plain (x .year) ∷ (timeIn (x .time) ++ (plain (x .n) ∷ plain (x .«missing_count») ∷ []))
 
 unfoldable pub intervalIn : Interval → List Value
 intervalIn noInterval = none ∷ []

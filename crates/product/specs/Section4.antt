@@ -194,7 +194,7 @@ unfoldable pub valuesIn : Product → List Value
 valuesIn x =
     plain (x .length)
     ∷ plain (x .number)
-    ∷ plain (x .coordinates)
+    ∷ plain (x .nv)
     ∷ plain (x .template)
     ∷ which (tagIn (x .part))
     ∷ (parameterIn (x .parameter)

@@ -66,7 +66,7 @@ pub struct EnsemblePart {
     pub forecasts: u8,
 }
 
-// `members` is Nc. Position, radius, deviation and distance are raw.
+// `nc` is how many member numbers there are. Position, radius, deviation and distance are raw.
 pub struct ClusterPart {
     pub derived: u8,
     pub forecasts: u8,
@@ -78,7 +78,7 @@ pub struct ClusterPart {
     pub latitude: u32,
     pub longitude: u32,
     pub radius: u32,
-    pub members: u8,
+    pub nc: u8,
     pub deviation_factor: u8,
     pub deviation: u32,
     pub distance_factor: u8,
@@ -108,12 +108,12 @@ pub enum Part {
     Aerosol(AerosolPart),
 }
 
-// The end of the interval. `ranges` is n, `missing` the missing count.
+// The end of the interval, and n, how many time ranges there are.
 pub struct IntervalEnd {
     pub year: u16,
     pub time: Time,
-    pub ranges: u8,
-    pub missing: u32,
+    pub n: u8,
+    pub missing_count: u32,
 }
 
 pub enum Interval {
@@ -121,11 +121,11 @@ pub enum Interval {
     Ends(IntervalEnd),
 }
 
-// Every field once. `coordinates` is NV.
+// Every field once. `nv` is how many coordinate values there are.
 pub struct Product {
     pub length: u32,
     pub number: u8,
-    pub coordinates: u16,
+    pub nv: u16,
     pub template: u16,
     pub parameter: Parameter,
     pub process: Process,
@@ -342,7 +342,7 @@ fn record_of(section: &[u8], kind: PartKind, timed: bool) -> Product
     Product {
         length: octets::u32_at(section, 1),
         number: octets::u8_at(section, 5),
-        coordinates: octets::u16_at(section, 6),
+        nv: octets::u16_at(section, 6),
         template: octets::u16_at(section, 8),
         parameter: read_parameter(section, 9),
         process: read_process(section, end as u32),
@@ -444,7 +444,7 @@ fn read_cluster(section: &[u8], end: u32) -> ClusterPart
         latitude: octets::u32_at(section, before + 8),
         longitude: octets::u32_at(section, before + 12),
         radius: octets::u32_at(section, before + 16),
-        members: octets::u8_at(section, before + 20),
+        nc: octets::u8_at(section, before + 20),
         deviation_factor: octets::u8_at(section, before + 21),
         deviation: octets::u32_at(section, before + 22),
         distance_factor: octets::u8_at(section, before + 26),
@@ -494,8 +494,8 @@ fn read_end(section: &[u8], end: u16) -> IntervalEnd
     IntervalEnd {
         year: octets::u16_at(section, before + 1),
         time: layout::read_time(section, end as u32 + 2),
-        ranges: octets::u8_at(section, before + 8),
-        missing: octets::u32_at(section, before + 9),
+        n: octets::u8_at(section, before + 8),
+        missing_count: octets::u32_at(section, before + 9),
     }
 }
 

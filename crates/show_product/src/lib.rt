@@ -41,7 +41,7 @@ fn show_head(x: Product) {
     output::text(b"read");
     output::number(b"length", x.length as u64);
     output::number(b"number", x.number as u64);
-    output::number(b"coordinates", x.coordinates as u64);
+    output::number(b"coordinates", x.nv as u64);
     output::number(b"template", x.template as u64);
     output::number(b"category", x.parameter.category as u64);
     output::number(b"parameter", x.parameter.number as u64);
@@ -119,7 +119,7 @@ fn show_domain(x: ClusterPart) {
     output::number(b"latitude", x.latitude as u64);
     output::number(b"longitude", x.longitude as u64);
     output::number(b"radius", x.radius as u64);
-    output::number(b"members", x.members as u64);
+    output::number(b"members", x.nc as u64);
 }
 
 fn show_spread(deviation_factor: u8, deviation: u32, distance_factor: u8, distance: u32) {
@@ -162,14 +162,14 @@ fn show_end(x: IntervalEnd) {
     output::number(b"year", x.year as u64);
     let time = x.time;
     output::time(time);
-    output::number(b"ranges", x.ranges as u64);
-    output::number(b"missing", x.missing as u64);
+    output::number(b"ranges", x.n as u64);
+    output::number(b"missing", x.missing_count as u64);
 }
 
 fn ranges_in(interval: Interval) -> u8 {
     match interval {
         Interval::None => 0,
-        Interval::Ends(x) => x.ranges,
+        Interval::Ends(x) => x.n,
     }
 }
 
