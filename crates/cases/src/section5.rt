@@ -25,7 +25,7 @@ fn show_packing(x: Packing) {
     output::number(b"value_type", x.value_type as u64);
 }
 
-// Unpacks into the first `size` places of the row, or as many as it has, and shows them.
+// Unpacks into the first `size` places of the row and shows them; shows nothing where the row has fewer.
 pub(crate) fn show_row(section5: &[u8], section7: &[u8], row: &mut [u32], size: usize) {
     if row.len() < size {
         return;
