@@ -18,10 +18,11 @@ use Rattle.queue.specs.Queues.{recordIn, recordFiled, queueFiled}
 use Rattle.text.specs.Text.{written, startsWith, append}
 use Rattle.report.specs.Texts.{listing, explanation}
 use Rattle.shelf_octets.specs.ShelfOctets.{shelfIn, octetsOf}
-use Rattle.skogmund.specs.Entries.{coded, ListInto}
+use Rattle.record.specs.Lent.{done as doneWith}
+use Rattle.record.specs.Records.{sectionOutcome, intoRow}
+use Rattle.skogmund.specs.Entries.{coded, recordTold, ListInto}
 use Rattle.skogmund.specs.Shelves.{done, emptied, joined, filed, filedField, filedQueue, shown, slotShown}
 use Rattle.skogmund.specs.Parts.{PartInto}
-use Rattle.skogmund.specs.Records.{ReadInto}
 use Rattle.identification.proofs.read.Reads as read₁
 use Rattle.grid.proofs.read.Reads as read₃
 use Rattle.grid.proofs.list_span.Reads as list-span
@@ -49,6 +50,7 @@ use Rattle.report.proofs.whole_explanation.Reads as whole-explanation
 use Rattle.shelf_octets.proofs.read.Reads as octets-read
 use Rattle.shelf_octets.proofs.slot_of.Reads as octets-slot-of
 use Rattle.shelf_octets.proofs.write.Reads as octets-write
+use Rattle.record.proofs.read_into.Reads as read-into
 use Rattle.skogmund.proofs.skogmund_unpack.Reads as skogmund-unpack
 use Rattle.skogmund.proofs.skogmund_list.Reads as skogmund-list
 use Rattle.skogmund.proofs.shelves.skogmund_empty.Reads as skogmund-empty
@@ -57,7 +59,7 @@ use Rattle.skogmund.proofs.shelves.skogmund_file.Reads as skogmund-file
 use Rattle.skogmund.proofs.shelves.skogmund_file_queue.Reads as skogmund-file-queue
 use Rattle.skogmund.proofs.shelves.skogmund_slot.Reads as skogmund-slot
 use Rattle.skogmund.proofs.part.skogmund_part.Reads as skogmund-part
-use Rattle.skogmund.proofs.record.skogmund_read.Reads as skogmund-read
+use Rattle.skogmund.proofs.skogmund_read.Reads as skogmund-read
 
 pub identification-read : (lent : _) (given : _) (r : _) (later : _) → read₁.Learnt lent given r later → one.told r ≡ one.outcome₁ (now (given .0))
 identification-read lent given r later e = e
@@ -134,7 +136,10 @@ report-whole-explanation lent given r later e = e
 pub skogmund-tells-part : (lent : _) (given : _) (r : _) (later : _) → skogmund-part.Learnt lent given r later → PartInto (given .0) (now (given .1 .0)) (given .1 .1 .0) (now (given .1 .1 .1 .0)) r (now (later .1 .1 .1 .0))
 skogmund-tells-part lent given r later e = e
 
-pub skogmund-tells-record : (lent : _) (given : _) (r : _) (later : _) → skogmund-read.Learnt lent given r later → ReadInto (given .0) (now (given .1 .0)) (now (given .1 .1 .0)) r (now (later .1 .1 .0))
+pub record-read-into : (lent : _) (given : _) (r : _) (later : _) → read-into.Learnt lent given r later → doneWith r (now (later .1 .1 .0)) ≡ intoRow (sectionOutcome (given .0) (now (given .1 .0))) (now (given .1 .1 .0))
+record-read-into lent given r later e = e
+
+pub skogmund-tells-record : (lent : _) (given : _) (r : _) (later : _) → skogmund-read.Learnt lent given r later → doneWith r (now (later .1 .1 .0)) ≡ recordTold (given .0) (now (given .1 .0)) (now (given .1 .1 .0))
 skogmund-tells-record lent given r later e = e
 
 pub shelf-octets-read : (lent : _) (given : _) (r : _) (later : _) → octets-read.Learnt lent given r later → r ≡ shelfIn (now (given .0))

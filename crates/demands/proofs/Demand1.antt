@@ -7,15 +7,16 @@ pub use Rattle.demands.proofs.EveryInput
 -- ".. ends, ..": each meets its contract, which is so only of code that ends.
 pub use Rattle.demands.proofs.EveryEntryEnds
 -- ".. and answers ..": for each answer type, any two answers that the contract allows for an input are one, with what was lent.
-pub use Rattle.demands.proofs.OneAnswer.{one-identification, one-grid, one-product, one-packing, one-data, one-field, one-unpacking, one-filing, one-answer, one-number, one-signed, one-time, one-text, one-part, one-read, one-list, one-shelf, one-filed, one-slot}
+pub use Rattle.demands.proofs.OneAnswer.{one-identification, one-grid, one-product, one-packing, one-data, one-field, one-unpacking, one-filing, one-answer, one-number, one-signed, one-time, one-text, one-part, one-done, one-list, one-shelf, one-filed, one-slot}
 -- ".. or refuses with a number from document 01.": its table lists the number for the section, and the place is 0 except with 8,
 -- and then an octet that a section can have.
 pub use Rattle.refusals.proofs.RefusalNumbers.{identification-refuses, grid-refuses, product-refuses, packing-refuses, data-refuses, unpacking-refuses, field-refuses, filing-refuses, record-refuses, queue-refuses, queue-number, head-number}
 -- Of the entries for C: each answers 0, or one number for a refusal that a table lists, and no two refusals have the same;
-pub use Rattle.demands.proofs.NumbersForC.{unpack-answers, read-answers, part-answers, list-answers, empty-answers, join-answers, slot-answers, field-answers, queue-answers, one-refusal}
+pub use Rattle.demands.proofs.NumbersForC.{unpack-answers, read-into-refuses, read-answers, part-answers, list-answers, empty-answers, join-answers, slot-answers, field-answers, queue-answers, one-refusal}
 -- it can be taken apart, and is 0 exactly where nothing is refused (of `skogmund_read`: `told-exactly-when`, demand 2)
 pub use Rattle.skogmund.proofs.Answered.{taken-apart, listed-code, unpacked-exactly-when, part-exactly-when, listed-exactly-when, emptied-exactly-when, joined-exactly-when, shown-exactly-when, filed-exactly-when, queue-exactly-when}
--- "A refusal changes no shelf and no lent buffer.": the theorems of this file, and for the entries for C
+-- "A refusal changes no shelf and no lent buffer.": the theorems of this file, and of `record::read_into` and the entries for C
+pub use Rattle.record.proofs.RecordRead.{row-stays}
 pub use Rattle.skogmund.proofs.RefusalsLeaveAll.{unpack-leaves, read-leaves, part-leaves, list-leaves, empty-leaves, join-leaves, field-leaves, queue-leaves, slot-leaves}
 use Prim.Native.Nat.{ℕ}
 use mathlib.Core.Path.{_≡_, refl, sym, ap, _∙_}

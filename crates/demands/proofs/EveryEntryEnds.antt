@@ -155,14 +155,16 @@ use Rattle.report.proofs.listing.Statement as report-listing
 use Rattle.report.proofs.listing.Met as report-listing-met
 use Rattle.report.proofs.explanation.Statement as report-explanation
 use Rattle.report.proofs.explanation.Met as report-explanation-met
+use Rattle.record.proofs.read_into.Statement as record-read-into
+use Rattle.record.proofs.read_into.Met as record-read-into-met
 use Rattle.skogmund.proofs.skogmund_unpack.Statement as skogmund-unpack
 use Rattle.skogmund.proofs.skogmund_unpack.Met as skogmund-unpack-met
 use Rattle.skogmund.proofs.skogmund_list.Statement as skogmund-list
 use Rattle.skogmund.proofs.skogmund_list.Met as skogmund-list-met
 use Rattle.skogmund.proofs.part.skogmund_part.Statement as skogmund-part
 use Rattle.skogmund.proofs.part.skogmund_part.Met as skogmund-part-met
-use Rattle.skogmund.proofs.record.skogmund_read.Statement as skogmund-read
-use Rattle.skogmund.proofs.record.skogmund_read.Met as skogmund-read-met
+use Rattle.skogmund.proofs.skogmund_read.Statement as skogmund-read
+use Rattle.skogmund.proofs.skogmund_read.Met as skogmund-read-met
 use Rattle.skogmund.proofs.shelves.skogmund_empty.Statement as skogmund-empty
 use Rattle.skogmund.proofs.shelves.skogmund_empty.Met as skogmund-empty-met
 use Rattle.skogmund.proofs.shelves.skogmund_file.Statement as skogmund-file
@@ -449,6 +451,11 @@ standard-read-failed-ends = standard-read-failed-met.met
 
 pub standard-print-ends : {M : Type 1} → standard-print.statement M
 standard-print-ends = standard-print-met.met
+
+-- ---- record
+
+pub record-read-into-ends : {M : Type 1} → record-read-into.statement M
+record-read-into-ends = record-read-into-met.met
 
 -- ---- skogmund
 

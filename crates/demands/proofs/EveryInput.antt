@@ -87,10 +87,11 @@ use Rattle.report.proofs.whole_listing.Reads as report-whole-listing
 use Rattle.report.proofs.whole_explanation.Reads as report-whole-explanation
 use Rattle.report.proofs.listing.Reads as report-listing
 use Rattle.report.proofs.explanation.Reads as report-explanation
+use Rattle.record.proofs.read_into.Reads as record-read-into
 use Rattle.skogmund.proofs.skogmund_unpack.Reads as skogmund-unpack
 use Rattle.skogmund.proofs.skogmund_list.Reads as skogmund-list
 use Rattle.skogmund.proofs.part.skogmund_part.Reads as skogmund-part
-use Rattle.skogmund.proofs.record.skogmund_read.Reads as skogmund-read
+use Rattle.skogmund.proofs.skogmund_read.Reads as skogmund-read
 use Rattle.skogmund.proofs.shelves.skogmund_empty.Reads as skogmund-empty
 use Rattle.skogmund.proofs.shelves.skogmund_file.Reads as skogmund-file
 use Rattle.skogmund.proofs.shelves.skogmund_join.Reads as skogmund-join
@@ -371,6 +372,11 @@ standard-read-failed-takes lent given = tt
 
 pub standard-print-takes : TakesEvery standard-print.Asked
 standard-print-takes lent given = tt
+
+-- ---- record
+
+pub record-read-into-takes : TakesEvery record-read-into.Asked
+record-read-into-takes lent given = tt
 
 -- ---- skogmund
 

@@ -2,8 +2,8 @@
 -- Assumes nothing.
 use Prim.Native.Nat.{ℕ, _≤_, _<_}
 use native.Mathlib.Omega.{arith}
-use mathlib.Core.Path.{_≡_, refl, sym, subst⁻¹}
-use mathlib.Core.Logic.{inl, inr}
+use mathlib.Core.Path.{_≡_, refl, sym, ap, subst⁻¹}
+use mathlib.Core.Logic.{_⊎_, inl, inr}
 use mathlib.Core.Bool.{Bool, true, false, cond, true≢false, _&&_}
 use mathlib.Core.List.{List, [], _∷_}
 use lib.Dec.{eqb, ltb, leb}
@@ -11,7 +11,7 @@ use lib.IntN.{ℤ}
 use lib.ListN.{length}
 use borrow.Author.Tests.{leb-true, eqb-true, eq-eqb}
 use Rattle.octets.specs.Octets.{beAt}
-use Rattle.layout.specs.Fields.{Value, plain}
+use Rattle.layout.specs.Fields.{plain}
 use Rattle.layout.specs.Outcomes.{Outcome, refused, read}
 use Rattle.layout.specs.declared.Refusal.{Refusal}
 use Rattle.layout.proofs.Ranges.{both-hold}
@@ -32,9 +32,10 @@ use Rattle.queue.specs.declared.QueueAnswer.the-variants.{Filed as filedAll, Re
 use Rattle.queue.specs.Queues.{queueFiled}
 use Rattle.refusals.specs.Refusals.{Row, oneOf, numbersOf, Listed, numbers₁, numbers₃, numbers₄, numbers₅, table₁, table₃, table₄, table₅, unpackTable, filingTable, queueTable}
 use Rattle.refusals.proofs.RefusalNumbers.{Refuses, wider, refuses-wider, head-refuses, refuses₁, refuses₃, refuses₄, refuses₅, unpack-refuses, filing-refuses, queue-refuses}
-use Rattle.skogmund.specs.Entries.{code, codeOf, coded, over, fits, ListInto}
+use Rattle.record.specs.Lent.{done as doneWith, over}
+use Rattle.record.specs.Records.{sectionOutcome, outcome₇alone, refusal, intoRow}
+use Rattle.skogmund.specs.Entries.{code, codeOf, coded, recordTold, fits, ListInto}
 use Rattle.skogmund.specs.Parts.{PartInto}
-use Rattle.skogmund.specs.Records.{sectionOutcome, outcome₇alone, intoRow, ReadInto}
 use Rattle.skogmund.specs.Shelves.{noRoom, isShelf, done, emptied, joined, filed, keptIn, fieldKept, filedField, queueKept, filedQueue, slotValues, shown, slotShown}
 use Rattle.skogmund.proofs.Answered.{taken-apart}
 use Rattle.demands.specs.NumbersForC.{Answers, octetSections, roomTable, slotTable, readTable, fileTable, fileQueueTable}
@@ -92,17 +93,26 @@ section-refuses section s =
     by true a b p q = p
     by false a b p q = q
 
-pub read-answers : (section : ℕ) (s : List ℕ) (row : List ℤ) (answer : ℕ) (row′ : List ℤ) → ReadInto section s row answer row′ → Answers (readTable section) answer
+-- none, or a refusal that the table lists
+pub read-into-refuses : (section : ℕ) (s : List ℕ) (row : List ℤ) → (intoRow (sectionOutcome section s) row .answer ≡ refusal 0 0 0) ⊎ Listed (readTable section) (intoRow (sectionOutcome section s) row .answer)
 unfolding intoRow
-read-answers section s row answer row′ p = of-outcome (readTable section) (intoRow (sectionOutcome section s) row) answer (by (sectionOutcome section s) (section-refuses section s)) (p .answers)
+read-into-refuses section s row = by (sectionOutcome section s) (section-refuses section s)
   where
-    by-room : (t : Bool) (vs : List Value) → Refuses (readTable section) (cond t (refused 18 0 0) (read vs))
-    by-room true vs = record { listed = refl; placed = refl; within = omega arith }
-    by-room false vs = tt
+    by-room : (t : Bool) (row′ : List ℤ) → let x = cond t (doneWith (refusal 18 0 0) row) (doneWith (refusal 0 0 0) row′) .answer in (x ≡ refusal 0 0 0) ⊎ Listed (readTable section) x
+    by-room true row′ = inr (record { listed = refl; placed = refl; within = omega arith })
+    by-room false row′ = inl refl
 
-    by : (o : Outcome) → Refuses (readTable section) o → Refuses (readTable section) (intoRow o row)
-    by (refused number section′ place) r = r
-    by (read vs) r = by-room (ltb (length row) 64) vs
+    by : (o : Outcome) → Refuses (readTable section) o → (intoRow o row .answer ≡ refusal 0 0 0) ⊎ Listed (readTable section) (intoRow o row .answer)
+    by (refused number section′ place) r = inr r
+    by (read vs) r = by-room (ltb (length row) 64) _
+
+pub read-answers : (section : ℕ) (s : List ℕ) (row : List ℤ) → Answers (readTable section) (recordTold section s row .answer)
+unfolding recordTold
+read-answers section s row = by (read-into-refuses section s row)
+  where
+    by : {x : Refusal} → (x ≡ refusal 0 0 0) ⊎ Listed (readTable section) x → Answers (readTable section) (codeOf x)
+    by (inl e) = inl (ap codeOf e)
+    by {x} (inr l) = inr (x, refl, l)
 
 -- ---- refusals of what is lent
 

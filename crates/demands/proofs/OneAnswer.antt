@@ -34,9 +34,9 @@ use Rattle.shelf.specs.declared.Shelf.{Shelf}
 use Rattle.filing.specs.declared.Answer.{Answer}
 use Rattle.filing.specs.declared.Filed.{Filed}
 use Rattle.text.specs.Text.{Written, written}
+use Rattle.record.specs.Lent.{Done as DoneWith, done as doneWith}
 use Rattle.skogmund.specs.Entries.{ListInto}
 use Rattle.skogmund.specs.Parts.{PartInto}
-use Rattle.skogmund.specs.Records.{ReadInto}
 use Rattle.skogmund.specs.Shelves.{Done, done, Filed as FiledFor, filed, Shown, shown}
 
 -- ---- the readers, whose contracts say what an answer tells
@@ -94,9 +94,9 @@ one-text x a b after later p q = let e = p ∙ sym q in (ap (λ (x : Written). x
 pub one-part : (part : ℕ) (s : List ℕ) (k : ℕ) (places : List ℕ) (a b : ℕ) (after later : List ℕ) → PartInto part s k places a after → PartInto part s k places b later → (a ≡ b) × (after ≡ later)
 one-part part s k places a b after later p q = (p .answers ∙ sym (q .answers), p .writes ∙ sym (q .writes))
 
--- `skogmund_read`: the number that is answered and the lent row
-pub one-read : (section : ℕ) (s : List ℕ) (row : List ℤ) (a b : ℕ) (after later : List ℤ) → ReadInto section s row a after → ReadInto section s row b later → (a ≡ b) × (after ≡ later)
-one-read section s row a b after later p q = (p .answers ∙ sym (q .answers), p .writes ∙ sym (q .writes))
+-- `record::read_into` and `skogmund_read`: the answer and the lent row
+pub one-done : {A B : Type 0} (x : DoneWith A B) (a b : A) (after later : B) → doneWith a after ≡ x → doneWith b later ≡ x → (a ≡ b) × (after ≡ later)
+one-done {A} {B} x a b after later p q = let e = p ∙ sym q in (ap (λ (x : DoneWith A B). x .answer) e, ap (λ (x : DoneWith A B). x .lent) e)
 
 -- `skogmund_list`: the number that is answered, the lent text and the lent places
 pub one-list : (q text places : List ℕ) (a b : ℕ) (text₁ text₂ places₁ places₂ : List ℕ) → ListInto q text places a text₁ places₁ → ListInto q text places b text₂ places₂

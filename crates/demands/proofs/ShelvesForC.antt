@@ -19,7 +19,8 @@ use Rattle.filing.specs.Filing.{filedOf}
 use Rattle.queue.specs.Queues.{queueFiled}
 use Rattle.queue.specs.Records.{issueFrom}
 use Rattle.queue.specs.History.{History, start, file, queue, join, shelfOf}
-use Rattle.skogmund.specs.Entries.{code, over}
+use Rattle.record.specs.Lent.{over}
+use Rattle.skogmund.specs.Entries.{code}
 use Rattle.skogmund.specs.Shelves.{noRoom, isShelf, Done, done, emptied, joined, Filed, filed, filedField, filedQueue, Shown, shown, slotValues, slotShown}
 use Rattle.skogmund.proofs.Answered.{field-left, queue-left}
 use Rattle.demands.specs.Histories.{Given, Leaves, fieldOf}

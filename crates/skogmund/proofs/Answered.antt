@@ -11,7 +11,7 @@ use lib.IntN.{ℤ}
 use lib.ListN.{length, replicate}
 use borrow.Author.Tests.{le-ltb, ltb-false, lt-ltb, ltb-true, le-leb, leb-true, eq-eqb, eqb-true, eqb-false}
 use Rattle.layout.specs.Fields.{Value}
-use Rattle.layout.specs.Outcomes.{refused, read}
+use Rattle.layout.specs.Outcomes.{Outcome, refused, read}
 use Rattle.layout.specs.declared.Refusal.{Refusal}
 use Rattle.layout.proofs.Ranges.{both-hold}
 use Rattle.packing.specs.Unpacking.{unpackOutcome}
@@ -26,11 +26,11 @@ use Rattle.queue.specs.Queues.{cutOf, recordsFiled, fromStart, queueRefusal, re
 use Rattle.report.specs.Texts.{listing}
 use Rattle.refusals.specs.Refusals.{Row, Listed, unpackTable, filingTable}
 use Rattle.refusals.proofs.RefusalNumbers.{unpack-refuses, filing-refuses}
-use Rattle.refusals.proofs.OneNumber.{positive, proper}
-use Rattle.skogmund.specs.Entries.{code, codeOf, coded, over, fits, ListInto}
+use Rattle.refusals.proofs.OneNumber.{Proper, positive, proper}
+use Rattle.record.specs.Lent.{over}
+use Rattle.skogmund.specs.Entries.{code, codeOf, coded, fits, ListInto}
 use Rattle.skogmund.specs.Parts.{PartInto}
 use Rattle.skogmund.specs.Shelves.{noRoom, isShelf, done, emptied, joined, Filed, filed, keptIn, fieldKept, filedField, queueKept, filedQueue, slotValues, shown, slotShown}
-use Rattle.skogmund.proofs.RecordTold.{accepting}
 
 -- ---- which refusal it is
 
@@ -45,6 +45,11 @@ both : {a b : Bool} → a ≡ true → b ≡ true → (a && b) ≡ true
 both {a} {b} p q = rw (p, q)
 
 -- ---- unpacking
+
+-- the number 0 is no refusal's
+accepting : (o : Outcome) → Proper o → coded o ≡ 0 → (vs : List Value) × (o ≡ read vs)
+accepting (refused number section place) p e = absurd (p .0 (omega (arith, e)))
+accepting (read vs) p e = (vs, refl)
 
 pub unpacked-exactly-when : (five seven row : List ℕ) (answer : ℕ) → answer ≡ coded (unpackOutcome five seven row) → (answer ≡ 0) ↔ ((vs : List Value) × (unpackOutcome five seven row ≡ read vs))
 unpacked-exactly-when five seven row answer a =

@@ -1,5 +1,3 @@
-pub mod Words
-pub mod Templates
 pub mod PartsWithin
 pub mod Kept
 pub mod RefusalsLeaveAll

@@ -1,7 +1,7 @@
 -- Where an entry for C refuses, each lent buffer is as it was.
 -- Assumes nothing.
 use Prim.Native.Nat.{ℕ}
-use mathlib.Core.Path.{_≡_, refl}
+use mathlib.Core.Path.{_≡_, refl, ap}
 use mathlib.Core.Bool.{Bool, true, false, cond, _&&_}
 use mathlib.Core.List.{List, [], _∷_}
 use lib.Dec.{ltb, leb}
@@ -22,9 +22,11 @@ use Rattle.queue.specs.declared.QueueAnswer.{QueueAnswer}
 use Rattle.queue.specs.declared.QueueAnswer.the-variants.{Filed as filedAll, Refused as refusedAll}
 use Rattle.queue.specs.Queues.{queueFiled}
 use Rattle.report.specs.Texts.{listing}
-use Rattle.skogmund.specs.Entries.{code, coded, over, fits, ListInto}
+use Rattle.record.specs.Lent.{over}
+use Rattle.record.specs.Records.{sectionOutcome}
+use Rattle.record.proofs.RecordRead.{row-stays}
+use Rattle.skogmund.specs.Entries.{code, codeOf, coded, recordTold, fits, ListInto}
 use Rattle.skogmund.specs.Parts.{partSpan, tellSpan, PartInto}
-use Rattle.skogmund.specs.Records.{sectionOutcome, intoRow, valuesAfter, ReadInto}
 use Rattle.skogmund.specs.Shelves.{noRoom, isShelf, done, emptied, joined, Filed, filed, keptIn, fieldKept, filedField, queueKept, filedQueue, slotValues, shown, slotShown}
 
 -- ---- shelves as octets
@@ -97,13 +99,9 @@ unpack-leaves five seven row answer row′ a w h = by (unpackOutcome five seven 
     by (refused number section place) a w = w
     by (read vs) a w = absurd (h a)
 
-pub read-leaves : (section : ℕ) (s : List ℕ) (row : List ℤ) (answer : ℕ) (row′ : List ℤ) → ReadInto section s row answer row′ → (answer ≡ 0 → ⊥) → row′ ≡ row
-unfolding valuesAfter
-read-leaves section s row answer row′ p h = by (intoRow (sectionOutcome section s) row) (p .answers) (p .writes)
-  where
-    by : (o : Outcome) → answer ≡ coded o → row′ ≡ valuesAfter o row → row′ ≡ row
-    by (refused number section place) a w = w
-    by (read vs) a w = absurd (h a)
+pub read-leaves : (section : ℕ) (s : List ℕ) (row : List ℤ) → (recordTold section s row .answer ≡ 0 → ⊥) → recordTold section s row .lent ≡ row
+unfolding recordTold
+read-leaves section s row h = row-stays (sectionOutcome section s) row (λ e. h (ap codeOf e))
 
 pub part-leaves : (part : ℕ) (s : List ℕ) (k : ℕ) (places : List ℕ) (answer : ℕ) (places′ : List ℕ) → PartInto part s k places answer places′ → (answer ≡ 0 → ⊥) → places′ ≡ places
 part-leaves part s k places answer places′ p h = by (ltb (length places) 2) (p .answers) (p .writes)

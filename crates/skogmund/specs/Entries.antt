@@ -3,12 +3,15 @@
 use Prim.Native.Nat.{ℕ, _+_, _*_, _^_}
 use mathlib.Core.Path.{_≡_}
 use mathlib.Core.Bool.{Bool, cond, _&&_}
-use mathlib.Core.List.{List, _++_}
+use mathlib.Core.List.{List}
 use lib.Dec.{ltb, leb}
-use lib.ListN.{length, drop, set}
+use lib.IntN.{ℤ}
+use lib.ListN.{length, set}
 use Rattle.layout.specs.Outcomes.{Outcome, refused, read}
 use Rattle.layout.specs.declared.Refusal.{Refusal}
 use Rattle.report.specs.Texts.{listing}
+use Rattle.record.specs.Lent.{Done, done, over}
+use Rattle.record.specs.Records.{sectionOutcome, intoRow}
 
 -- number x 2^40 + section x 2^32 + place
 abbrev pub code : ℕ → ℕ → ℕ → ℕ
@@ -22,9 +25,14 @@ abbrev pub coded : Outcome → ℕ
 coded (refused number section place) = code number section place
 coded (read vs) = 0
 
--- values at the start of a buffer, and behind them what was there before
-abbrev pub over : {A : Type 0} → List A → List A → List A
-over places vs = vs ++ drop (length vs) places
+-- a refusal, or zeros for none, as one number
+abbrev pub inOneNumber : {B : Type 0} → Done Refusal B → Done ℕ B
+inOneNumber x = done (codeOf (x .answer)) (x .lent)
+
+-- ---- the record of a section
+
+unfoldable pub recordTold : ℕ → List ℕ → List ℤ → Done ℕ (List ℤ)
+recordTold section s row = inOneNumber (intoRow (sectionOutcome section s) row)
 
 -- ---- the listing
 

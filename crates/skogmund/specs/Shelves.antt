@@ -19,7 +19,8 @@ use Rattle.queue.specs.Records.{issueFrom}
 use Rattle.queue.specs.declared.QueueAnswer.{QueueAnswer}
 use Rattle.queue.specs.declared.QueueAnswer.the-variants.{Filed as filedAll, Refused as refusedAll}
 use Rattle.queue.specs.Queues.{queueFiled}
-use Rattle.skogmund.specs.Entries.{code, codeOf, over}
+use Rattle.record.specs.Lent.{over}
+use Rattle.skogmund.specs.Entries.{code, codeOf}
 
 -- 18: a buffer of another length, or one with too few places
 abbrev pub noRoom : ℕ

@@ -3,12 +3,12 @@
 ghost use mathlib.Core.Path.{_≡_};
 ghost use Prim.Native.Nat.{_≤_};
 ghost use Rattle.packing.specs.Unpacking.{unpackOutcome, rowAfter};
-ghost use Rattle.skogmund.specs.Entries.{codeOf, coded, ListInto};
+ghost use Rattle.record.specs.Lent.{done};
+ghost use Rattle.skogmund.specs.Entries.{codeOf, coded, recordTold, ListInto};
 use layout::Refusal;
 use packing::Unpacked;
 
 pub mod part;
-pub mod record;
 pub mod shelves;
 
 // 18 x 2^40: 18, of no section and no place.
@@ -24,6 +24,14 @@ pub extern "C" fn skogmund_unpack(section5: &[u8], section7: &[u8], row: &mut [u
         return 0;
     };
     code(x)
+}
+
+// The count and the numbers of a section's record, in the first places.
+#[no_mangle]
+pub extern "C" fn skogmund_read(section: u8, s: &[u8], values: &mut [i64]) -> u64
+    ensures { λ r. ⌜ done r (now (values .exit)) ≡ recordTold section (now (s .entry)) (now (values .entry)) ⌝ }
+{
+    code(record::read_into(section, s, values))
 }
 
 // A place is an octet number of a section, of which there are at most 65,536.

@@ -7,7 +7,7 @@ ghost use lib.ListN.{length, take, drop};
 ghost use Rattle.octets.specs.Octets.{part};
 ghost use Rattle.queue.specs.Records.{issueFrom};
 ghost use Rattle.skogmund.specs.Shelves.{done, emptied, joined, filed, keptIn, filedField, filedQueue, slotValues, shown, slotShown};
-ghost use Rattle.skogmund.specs.Entries.{over};
+ghost use Rattle.record.specs.Lent.{over};
 use filing::Answer;
 use filing::Issue;
 use queue::Counts;

@@ -8,7 +8,7 @@ use Rattle.octets.proofs.Free.{free}
 use Rattle.shelf.specs.declared.Shelf.{Shelf}
 use Rattle.shelf.specs.declared.Slot.{Slot}
 use Rattle.shelf.specs.Shelves.{slotAt}
-use Rattle.skogmund.specs.Entries.{over}
+use Rattle.record.specs.Lent.{over}
 use Rattle.skogmund.specs.Shelves.{shown, slotValues, slotShown}
 use Rattle.skogmund.proofs.shelves.skogmund_slot.Statement.{statement}
 use Rattle.skogmund.proofs.shelves.skogmund_slot.Tie as tie
