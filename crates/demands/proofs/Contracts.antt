@@ -9,7 +9,7 @@ use Rattle.product.specs.Section4 as four
 use Rattle.product.specs.Views.{rangeSpan, memberSpan, coordinateSpan, rangeOf, membersOf, coordinatesOf}
 use Rattle.packing.specs.Section5 as five
 use Rattle.packing.specs.Section7 as seven
-use Rattle.packing.specs.Unpacking.{Unpacks, unpackOutcome, rowAfter}
+use Rattle.packing.specs.Unpacking.{Unpacks}
 use Rattle.field.specs.Field as field
 use Rattle.shelf.specs.Shelves.{emptyShelf, slotAt, putOf, joinShelf}
 use Rattle.filing.specs.Filing.{filedOf}
@@ -18,11 +18,11 @@ use Rattle.queue.specs.Queues.{recordIn, recordFiled, queueFiled}
 use Rattle.text.specs.Text.{written, startsWith, append}
 use Rattle.report.specs.Texts.{listing, explanation}
 use Rattle.shelf_octets.specs.ShelfOctets.{shelfIn, octetsOf}
-use Rattle.record.specs.Lent.{done as doneWith}
+use Rattle.record.specs.Lent.{done}
 use Rattle.record.specs.Records.{sectionOutcome, intoRow}
-use Rattle.skogmund.specs.Entries.{coded, recordTold, ListInto}
-use Rattle.skogmund.specs.Shelves.{done, emptied, joined, filed, filedField, filedQueue, shown, slotShown}
-use Rattle.skogmund.specs.Parts.{PartInto}
+use Rattle.skogmund.specs.Entries.{doneBoth, rowUnpacked, recordTold, listingTold}
+use Rattle.skogmund.specs.Shelves.{emptied, joined, filedField, filedQueue, slotShown}
+use Rattle.skogmund.specs.Parts.{partTold}
 use Rattle.identification.proofs.read.Reads as read₁
 use Rattle.grid.proofs.read.Reads as read₃
 use Rattle.grid.proofs.list_span.Reads as list-span
@@ -133,13 +133,13 @@ report-whole-listing lent given r later e = e
 pub report-whole-explanation : (lent : _) (given : _) (r : _) (later : _) → whole-explanation.Learnt lent given r later → written (now (later .1 .0)) r ≡ startsWith (now (given .1 .0)) (explanation (now (given .0)))
 report-whole-explanation lent given r later e = e
 
-pub skogmund-tells-part : (lent : _) (given : _) (r : _) (later : _) → skogmund-part.Learnt lent given r later → PartInto (given .0) (now (given .1 .0)) (given .1 .1 .0) (now (given .1 .1 .1 .0)) r (now (later .1 .1 .1 .0))
+pub skogmund-tells-part : (lent : _) (given : _) (r : _) (later : _) → skogmund-part.Learnt lent given r later → done r (now (later .1 .1 .1 .0)) ≡ partTold (given .0) (now (given .1 .0)) (given .1 .1 .0) (now (given .1 .1 .1 .0))
 skogmund-tells-part lent given r later e = e
 
-pub record-read-into : (lent : _) (given : _) (r : _) (later : _) → read-into.Learnt lent given r later → doneWith r (now (later .1 .1 .0)) ≡ intoRow (sectionOutcome (given .0) (now (given .1 .0))) (now (given .1 .1 .0))
+pub record-read-into : (lent : _) (given : _) (r : _) (later : _) → read-into.Learnt lent given r later → done r (now (later .1 .1 .0)) ≡ intoRow (sectionOutcome (given .0) (now (given .1 .0))) (now (given .1 .1 .0))
 record-read-into lent given r later e = e
 
-pub skogmund-tells-record : (lent : _) (given : _) (r : _) (later : _) → skogmund-read.Learnt lent given r later → doneWith r (now (later .1 .1 .0)) ≡ recordTold (given .0) (now (given .1 .0)) (now (given .1 .1 .0))
+pub skogmund-tells-record : (lent : _) (given : _) (r : _) (later : _) → skogmund-read.Learnt lent given r later → done r (now (later .1 .1 .0)) ≡ recordTold (given .0) (now (given .1 .0)) (now (given .1 .1 .0))
 skogmund-tells-record lent given r later e = e
 
 pub shelf-octets-read : (lent : _) (given : _) (r : _) (later : _) → octets-read.Learnt lent given r later → r ≡ shelfIn (now (given .0))
@@ -152,10 +152,10 @@ shelf-octets-slot-of lent given r later e = e
 pub shelf-octets-write : (lent : _) (given : _) (r : _) (later : _) → octets-write.Learnt lent given r later → written (now (later .0)) r ≡ append (written (now (given .0)) 0) (octetsOf (given .1 .0))
 shelf-octets-write lent given r later e = e
 
-pub skogmund-unpacks : (lent : _) (given : _) (r : _) (later : _) → skogmund-unpack.Learnt lent given r later → (r ≡ coded (unpackOutcome (now (given .0)) (now (given .1 .0)) (now (given .1 .1 .0)))) × (now (later .1 .1 .0) ≡ rowAfter (now (given .0)) (now (given .1 .0)) (now (given .1 .1 .0)))
+pub skogmund-unpacks : (lent : _) (given : _) (r : _) (later : _) → skogmund-unpack.Learnt lent given r later → done r (now (later .1 .1 .0)) ≡ rowUnpacked (now (given .0)) (now (given .1 .0)) (now (given .1 .1 .0))
 skogmund-unpacks lent given r later e = e
 
-pub skogmund-lists : (lent : _) (given : _) (r : _) (later : _) → skogmund-list.Learnt lent given r later → ListInto (now (given .0)) (now (given .1 .0)) (now (given .1 .1 .0)) r (now (later .1 .0)) (now (later .1 .1 .0))
+pub skogmund-lists : (lent : _) (given : _) (r : _) (later : _) → skogmund-list.Learnt lent given r later → doneBoth r (now (later .1 .0)) (now (later .1 .1 .0)) ≡ listingTold (now (given .0)) (now (given .1 .0)) (now (given .1 .1 .0))
 skogmund-lists lent given r later e = e
 
 pub skogmund-empties : (lent : _) (given : _) (r : _) (later : _) → skogmund-empty.Learnt lent given r later → done r (now (later .0)) ≡ emptied (now (given .0))
@@ -164,11 +164,11 @@ skogmund-empties lent given r later e = e
 pub skogmund-joins : (lent : _) (given : _) (r : _) (later : _) → skogmund-join.Learnt lent given r later → done r (now (later .0)) ≡ joined (now (given .0)) (now (given .1 .0))
 skogmund-joins lent given r later e = e
 
-pub skogmund-files-field : (lent : _) (given : _) (r : _) (later : _) → skogmund-file.Learnt lent given r later → filed r (now (later .0)) (now (later .1 .1 .1 .1 .1 .1 .1 .1 .0)) ≡ filedField (now (given .0)) (given .1 .0) (given .1 .1 .0) (now (given .1 .1 .1 .0)) (now (given .1 .1 .1 .1 .0)) (now (given .1 .1 .1 .1 .1 .0)) (now (given .1 .1 .1 .1 .1 .1 .0)) (now (given .1 .1 .1 .1 .1 .1 .1 .0)) (now (given .1 .1 .1 .1 .1 .1 .1 .1 .0))
+pub skogmund-files-field : (lent : _) (given : _) (r : _) (later : _) → skogmund-file.Learnt lent given r later → doneBoth r (now (later .0)) (now (later .1 .1 .1 .1 .1 .1 .1 .1 .0)) ≡ filedField (now (given .0)) (given .1 .0) (given .1 .1 .0) (now (given .1 .1 .1 .0)) (now (given .1 .1 .1 .1 .0)) (now (given .1 .1 .1 .1 .1 .0)) (now (given .1 .1 .1 .1 .1 .1 .0)) (now (given .1 .1 .1 .1 .1 .1 .1 .0)) (now (given .1 .1 .1 .1 .1 .1 .1 .1 .0))
 skogmund-files-field lent given r later e = e
 
-pub skogmund-files-queue : (lent : _) (given : _) (r : _) (later : _) → skogmund-file-queue.Learnt lent given r later → filed r (now (later .0)) (now (later .1 .1 .0)) ≡ filedQueue (now (given .0)) (now (given .1 .0)) (now (given .1 .1 .0))
+pub skogmund-files-queue : (lent : _) (given : _) (r : _) (later : _) → skogmund-file-queue.Learnt lent given r later → doneBoth r (now (later .0)) (now (later .1 .1 .0)) ≡ filedQueue (now (given .0)) (now (given .1 .0)) (now (given .1 .1 .0))
 skogmund-files-queue lent given r later e = e
 
-pub skogmund-shows-slot : (lent : _) (given : _) (r : _) (later : _) → skogmund-slot.Learnt lent given r later → shown r (now (later .1 .1 .0)) ≡ slotShown (now (given .0)) (given .1 .0) (now (given .1 .1 .0))
+pub skogmund-shows-slot : (lent : _) (given : _) (r : _) (later : _) → skogmund-slot.Learnt lent given r later → done r (now (later .1 .1 .0)) ≡ slotShown (now (given .0)) (given .1 .0) (now (given .1 .1 .0))
 skogmund-shows-slot lent given r later e = e

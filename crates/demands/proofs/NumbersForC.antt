@@ -2,7 +2,7 @@
 -- Assumes nothing.
 use Prim.Native.Nat.{ℕ, _≤_, _<_}
 use native.Mathlib.Omega.{arith}
-use mathlib.Core.Path.{_≡_, refl, sym, ap, subst⁻¹}
+use mathlib.Core.Path.{_≡_, refl, sym, ap}
 use mathlib.Core.Logic.{_⊎_, inl, inr}
 use mathlib.Core.Bool.{Bool, true, false, cond, true≢false, _&&_}
 use mathlib.Core.List.{List, [], _∷_}
@@ -21,8 +21,7 @@ use Rattle.product.specs.Section4.{outcome₄}
 use Rattle.packing.specs.Section5.{outcome₅}
 use Rattle.packing.specs.Unpacking.{unpackOutcome}
 use Rattle.shelf.specs.declared.Shelf.{Shelf}
-use Rattle.shelf.specs.Shelves.{slotAt}
-use Rattle.shelf_octets.specs.ShelfOctets.{shelfIn, octetsOf}
+use Rattle.shelf_octets.specs.ShelfOctets.{shelfIn}
 use Rattle.filing.specs.declared.Answer.{Answer}
 use Rattle.filing.specs.declared.Answer.the-variants.{Kept, Passed, Refused as refusedField}
 use Rattle.filing.specs.Filing.{filedOf}
@@ -32,11 +31,11 @@ use Rattle.queue.specs.declared.QueueAnswer.the-variants.{Filed as filedAll, Re
 use Rattle.queue.specs.Queues.{queueFiled}
 use Rattle.refusals.specs.Refusals.{Row, oneOf, numbersOf, Listed, numbers₁, numbers₃, numbers₄, numbers₅, table₁, table₃, table₄, table₅, unpackTable, filingTable, queueTable}
 use Rattle.refusals.proofs.RefusalNumbers.{Refuses, wider, refuses-wider, head-refuses, refuses₁, refuses₃, refuses₄, refuses₅, unpack-refuses, filing-refuses, queue-refuses}
-use Rattle.record.specs.Lent.{done as doneWith, over}
+use Rattle.record.specs.Lent.{Done, done}
 use Rattle.record.specs.Records.{sectionOutcome, outcome₇alone, refusal, intoRow}
-use Rattle.skogmund.specs.Entries.{code, codeOf, coded, recordTold, fits, ListInto}
-use Rattle.skogmund.specs.Parts.{PartInto}
-use Rattle.skogmund.specs.Shelves.{noRoom, isShelf, done, emptied, joined, filed, keptIn, fieldKept, filedField, queueKept, filedQueue, slotValues, shown, slotShown}
+use Rattle.skogmund.specs.Entries.{code, codeOf, coded, noRoom, ifRoom, rowUnpacked, recordTold, fits, listingTold}
+use Rattle.skogmund.specs.Parts.{partTold}
+use Rattle.skogmund.specs.Shelves.{isShelf, emptied, joined, keptIn, fieldKept, filedField, queueKept, filedQueue, slotShown}
 use Rattle.skogmund.proofs.Answered.{taken-apart}
 use Rattle.demands.specs.NumbersForC.{Answers, octetSections, roomTable, slotTable, readTable, fileTable, fileQueueTable}
 
@@ -59,12 +58,13 @@ one-refusal table x y o p q e =
 
 -- ---- sections
 
-of-outcome : (table : List Row) (o : Outcome) (answer : ℕ) → Refuses table o → answer ≡ coded o → Answers table answer
-of-outcome table (refused number section place) answer r e = inr (record { number = number; section = section; place = place }, e, r)
-of-outcome table (read vs) answer r e = inl e
+of-outcome : (table : List Row) (o : Outcome) → Refuses table o → Answers table (coded o)
+of-outcome table (refused number section place) r = inr (refusal number section place, refl, r)
+of-outcome table (read vs) r = inl refl
 
-pub unpack-answers : (five seven row : List ℕ) (answer : ℕ) → answer ≡ coded (unpackOutcome five seven row) → Answers unpackTable answer
-unpack-answers five seven row answer e = of-outcome unpackTable (unpackOutcome five seven row) answer (unpack-refuses five seven row) e
+pub unpack-answers : (five seven row : List ℕ) → Answers unpackTable (rowUnpacked five seven row .answer)
+unfolding rowUnpacked
+unpack-answers five seven row = of-outcome unpackTable (unpackOutcome five seven row) (unpack-refuses five seven row)
 
 -- 4 is a number of every section
 four : (a b c d e f g : Bool) → g ≡ true
@@ -98,7 +98,7 @@ pub read-into-refuses : (section : ℕ) (s : List ℕ) (row : List ℤ) → (int
 unfolding intoRow
 read-into-refuses section s row = by (sectionOutcome section s) (section-refuses section s)
   where
-    by-room : (t : Bool) (row′ : List ℤ) → let x = cond t (doneWith (refusal 18 0 0) row) (doneWith (refusal 0 0 0) row′) .answer in (x ≡ refusal 0 0 0) ⊎ Listed (readTable section) x
+    by-room : (t : Bool) (row′ : List ℤ) → let x = cond t (done (refusal 18 0 0) row) (done (refusal 0 0 0) row′) .answer in (x ≡ refusal 0 0 0) ⊎ Listed (readTable section) x
     by-room true row′ = inr (record { listed = refl; placed = refl; within = omega arith })
     by-room false row′ = inl refl
 
@@ -116,72 +116,54 @@ read-answers section s row = by (read-into-refuses section s row)
 
 -- ---- refusals of what is lent
 
--- of no section and no place
-abbrev plainly : ℕ → Refusal
-plainly number = record { number = number; section = 0; place = 0 }
+-- a number of no section and no place that the table lists
+plainly : (table : List Row) (number : ℕ) → oneOf (numbersOf table 0) number ≡ true → eqb number 8 ≡ false → Answers table (code number 0 0)
+plainly table number e f = inr (refusal number 0 0, refl, record { listed = e; placed = sym f; within = omega arith })
 
-no-room : (table : List Row) → oneOf (numbersOf table 0) 18 ≡ true → Answers table noRoom
-no-room table e = inr (plainly 18, refl, record { listed = e; placed = refl; within = omega arith })
+either : {B : Type 0} (table : List Row) (t : Bool) (x y : Done ℕ B) → Answers table (x .answer) → Answers table (y .answer) → Answers table (cond t x y .answer)
+either table true x y p q = p
+either table false x y p q = q
 
-pub part-answers : (part : ℕ) (s : List ℕ) (k : ℕ) (places : List ℕ) (answer : ℕ) (places′ : List ℕ) → PartInto part s k places answer places′ → Answers roomTable answer
-part-answers part s k places answer places′ p = subst⁻¹ (Answers roomTable) (p .answers) (by (ltb (length places) 2))
-  where
-    by : (t : Bool) → Answers roomTable (cond t (code 18 0 0) 0)
-    by true = no-room roomTable refl
-    by false = inl refl
+by-room : {B : Type 0} (table : List Row) (t : Bool) (after before : B) → oneOf (numbersOf table 0) 18 ≡ true → Answers table (ifRoom t after before .answer)
+by-room table t after before e = either table t (done 0 after) (done noRoom before) (inl refl) (plainly table 18 e refl)
 
-pub list-answers : (q text places : List ℕ) (answer : ℕ) (text′ places′ : List ℕ) → ListInto q text places answer text′ places′ → Answers roomTable answer
-list-answers q text places answer text′ places′ p = subst⁻¹ (Answers roomTable) (p .answers) (by (fits q text places))
-  where
-    by : (t : Bool) → Answers roomTable (cond t 0 (code 18 0 0))
-    by true = inl refl
-    by false = no-room roomTable refl
+pub part-answers : (part : ℕ) (s : List ℕ) (k : ℕ) (places : List ℕ) → Answers roomTable (partTold part s k places .answer)
+unfolding partTold
+part-answers part s k places = by-room roomTable (leb 2 (length places)) _ _ refl
 
-done-answers : (t : Bool) (s after : List ℕ) → Answers roomTable (cond t (done 0 after) (done noRoom s) .answer)
-done-answers true s after = inl refl
-done-answers false s after = no-room roomTable refl
+pub list-answers : (q text places : List ℕ) → Answers roomTable (listingTold q text places .answer)
+unfolding listingTold
+list-answers q text places = by-room roomTable (fits q text places) _ _ refl
 
 pub empty-answers : (s : List ℕ) → Answers roomTable (emptied s .answer)
 unfolding emptied
-empty-answers s = done-answers (isShelf s) s _
+empty-answers s = by-room roomTable (isShelf s) _ _ refl
 
 pub join-answers : (s other : List ℕ) → Answers roomTable (joined s other .answer)
 unfolding joined
-join-answers s other = done-answers (isShelf s && isShelf other) s _
+join-answers s other = by-room roomTable (isShelf s && isShelf other) _ _ refl
 
 pub slot-answers : (s : List ℕ) (slot : ℕ) (values : List ℤ) → Answers slotTable (slotShown s slot values .answer)
 unfolding slotShown
-slot-answers s slot values = by (ltb 63 slot) (isShelf s && leb 64 (length values)) (over values (slotValues (slotAt (shelfIn s) slot)))
-  where
-    by : (t u : Bool) (l : List ℤ) → Answers slotTable (cond t (shown (code 16 0 0) values) (cond u (shown 0 l) (shown noRoom values)) .answer)
-    by true u l = inr (plainly 16, refl, record { listed = refl; placed = refl; within = omega arith })
-    by false true l = inl refl
-    by false false l = no-room slotTable refl
+slot-answers s slot values = either slotTable (ltb 63 slot) _ _ (plainly slotTable 16 refl refl) (by-room slotTable (isShelf s && leb 64 (length values)) _ _ refl)
 
 -- ---- filing
 
 keep-answers : (table : List Row) (s places : List ℕ) (after : Shelf) (ns : List ℕ) → oneOf (numbersOf table 0) 18 ≡ true → Answers table (keptIn s places after ns .answer)
 unfolding keptIn
-keep-answers table s places after ns e = by (isShelf s && leb (length ns) (length places)) (octetsOf after) (over places ns)
-  where
-    by : (t : Bool) (o l : List ℕ) → Answers table (cond t (filed 0 o l) (filed noRoom s places) .answer)
-    by true o l = inl refl
-    by false o l = no-room table e
+keep-answers table s places after ns e = by-room table (isShelf s && leb (length ns) (length places)) _ _ e
 
 pub field-answers : (s : List ℕ) (slot stored : ℕ) (s1 s3 s4 s5 s7 places : List ℕ) → Answers fileTable (filedField s slot stored s1 s3 s4 s5 s7 places .answer)
 unfolding filedField fieldKept
 field-answers s slot stored s1 s3 s4 s5 s7 places =
-    by-number (ltb 4294967296 stored) (filedOf (shelfIn s) slot (issueFrom stored) s1 s3 s4 s5 s7 .shelf) (filedOf (shelfIn s) slot (issueFrom stored) s1 s3 s4 s5 s7 .answer)
-    (λ x e. wider fileTable filingTable x refl (filing-refuses (shelfIn s) slot (issueFrom stored) s1 s3 s4 s5 s7 x e))
+    let made = filedOf (shelfIn s) slot (issueFrom stored) s1 s3 s4 s5 s7 in
+    either fileTable (ltb 4294967296 stored) _ _ (plainly fileTable 19 refl refl)
+    (by (made .shelf) (made .answer) (λ x e. wider fileTable filingTable x refl (filing-refuses (shelfIn s) slot (issueFrom stored) s1 s3 s4 s5 s7 x e)))
   where
-    by-answer : (after : Shelf) (a : Answer) → ((x : Refusal) → a ≡ refusedField x → Listed fileTable x) → Answers fileTable (fieldKept s places after a .answer)
-    by-answer after (refusedField x) f = inr (x, refl, f x refl)
-    by-answer after Kept f = keep-answers fileTable s places after (1 ∷ []) refl
-    by-answer after Passed f = keep-answers fileTable s places after (0 ∷ []) refl
-
-    by-number : (t : Bool) (after : Shelf) (a : Answer) → ((x : Refusal) → a ≡ refusedField x → Listed fileTable x) → Answers fileTable (cond t (filed (code 19 0 0) s places) (fieldKept s places after a) .answer)
-    by-number true after a f = inr (plainly 19, refl, record { listed = refl; placed = refl; within = omega arith })
-    by-number false after a f = by-answer after a f
+    by : (after : Shelf) (a : Answer) → ((x : Refusal) → a ≡ refusedField x → Listed fileTable x) → Answers fileTable (fieldKept s places after a .answer)
+    by after (refusedField x) f = inr (x, refl, f x refl)
+    by after Kept f = keep-answers fileTable s places after (1 ∷ []) refl
+    by after Passed f = keep-answers fileTable s places after (0 ∷ []) refl
 
 pub queue-answers : (s q places : List ℕ) → Answers fileQueueTable (filedQueue s q places .answer)
 unfolding filedQueue queueKept

@@ -3,7 +3,6 @@
 use Prim.Native.Nat.{ℕ}
 use mathlib.Core.Path.{_≡_, sym, ap, _∙_}
 use mathlib.Core.List.{List}
-use lib.IntN.{ℤ}
 use Rattle.layout.specs.Fields.{Value}
 use Rattle.layout.specs.Missing.{in32, inSigned}
 use Rattle.layout.specs.Time.{timeIn}
@@ -34,10 +33,7 @@ use Rattle.shelf.specs.declared.Shelf.{Shelf}
 use Rattle.filing.specs.declared.Answer.{Answer}
 use Rattle.filing.specs.declared.Filed.{Filed}
 use Rattle.text.specs.Text.{Written, written}
-use Rattle.record.specs.Lent.{Done as DoneWith, done as doneWith}
-use Rattle.skogmund.specs.Entries.{ListInto}
-use Rattle.skogmund.specs.Parts.{PartInto}
-use Rattle.skogmund.specs.Shelves.{Done, done, Filed as FiledFor, filed, Shown, shown}
+use Rattle.record.specs.Lent.{Done, done}
 
 -- ---- the readers, whose contracts say what an answer tells
 
@@ -63,8 +59,7 @@ one-field = determined-field
 pub one-unpacking : (five seven row : List ℕ) (a b : Unpacked) (after later : List ℕ) → Unpacks five seven row a after → Unpacks five seven row b later → (a ≡ b) × (after ≡ later)
 one-unpacking = determined-row
 
--- ---- contracts that are equations: octets, layout's places, card, shelf, filing by value, queue, `refusal_of`, the octets of a view, and
--- both that `skogmund_unpack` promises
+-- ---- contracts that are equations: octets, layout's places, card, shelf, filing by value, queue, `refusal_of`, the octets of a view
 
 pub one-answer : {A : Type 0} {x : A} (a b : A) → a ≡ x → b ≡ x → a ≡ b
 one-answer a b p q = p ∙ sym q
@@ -90,29 +85,6 @@ one-filing x a b after later p q = let e = p ∙ sym q in (ap (λ (x : Filed). x
 pub one-text : (x : Written) (a b : ℕ) (after later : List ℕ) → written after a ≡ x → written later b ≡ x → (a ≡ b) × (after ≡ later)
 one-text x a b after later p q = let e = p ∙ sym q in (ap (λ (x : Written). x .at) e, ap (λ (x : Written). x .octets) e)
 
--- `skogmund_part`: the number that is answered and the lent places
-pub one-part : (part : ℕ) (s : List ℕ) (k : ℕ) (places : List ℕ) (a b : ℕ) (after later : List ℕ) → PartInto part s k places a after → PartInto part s k places b later → (a ≡ b) × (after ≡ later)
-one-part part s k places a b after later p q = (p .answers ∙ sym (q .answers), p .writes ∙ sym (q .writes))
-
--- `record::read_into` and `skogmund_read`: the answer and the lent row
-pub one-done : {A B : Type 0} (x : DoneWith A B) (a b : A) (after later : B) → doneWith a after ≡ x → doneWith b later ≡ x → (a ≡ b) × (after ≡ later)
-one-done {A} {B} x a b after later p q = let e = p ∙ sym q in (ap (λ (x : DoneWith A B). x .answer) e, ap (λ (x : DoneWith A B). x .lent) e)
-
--- `skogmund_list`: the number that is answered, the lent text and the lent places
-pub one-list : (q text places : List ℕ) (a b : ℕ) (text₁ text₂ places₁ places₂ : List ℕ) → ListInto q text places a text₁ places₁ → ListInto q text places b text₂ places₂
-    → (a ≡ b) × (text₁ ≡ text₂) × (places₁ ≡ places₂)
-one-list q text places a b text₁ text₂ places₁ places₂ x y =
-    (x .answers ∙ sym (y .answers), x .writes ∙ sym (y .writes), x .counts ∙ sym (y .counts))
-
--- `skogmund_empty` and `skogmund_join`: the number that is answered and the lent shelf
-pub one-shelf : (x : Done) (a b : ℕ) (after later : List ℕ) → done a after ≡ x → done b later ≡ x → (a ≡ b) × (after ≡ later)
-one-shelf x a b after later p q = let e = p ∙ sym q in (ap (λ (x : Done). x .answer) e, ap (λ (x : Done). x .shelf) e)
-
--- `skogmund_file` and `skogmund_file_queue`: the lent numbers too
-pub one-filed : (x : FiledFor) (a b : ℕ) (after later numbers₁ numbers₂ : List ℕ) → filed a after numbers₁ ≡ x → filed b later numbers₂ ≡ x → (a ≡ b) × (after ≡ later) × (numbers₁ ≡ numbers₂)
-one-filed x a b after later numbers₁ numbers₂ p q =
-    let e = p ∙ sym q in (ap (λ (x : FiledFor). x .answer) e, ap (λ (x : FiledFor). x .shelf) e, ap (λ (x : FiledFor). x .numbers) e)
-
--- `skogmund_slot`: the number that is answered and the lent values
-pub one-slot : (x : Shown) (a b : ℕ) (after later : List ℤ) → shown a after ≡ x → shown b later ≡ x → (a ≡ b) × (after ≡ later)
-one-slot x a b after later p q = let e = p ∙ sym q in (ap (λ (x : Shown). x .answer) e, ap (λ (x : Shown). x .values) e)
+-- `record::read_into` and every entry for C: the answer and the lent buffers, one or a pair
+pub one-done : {A B : Type 0} (x : Done A B) (a b : A) (after later : B) → done a after ≡ x → done b later ≡ x → (a ≡ b) × (after ≡ later)
+one-done {A} {B} x a b after later p q = let e = p ∙ sym q in (ap (λ (x : Done A B). x .answer) e, ap (λ (x : Done A B). x .lent) e)

@@ -19,10 +19,11 @@ use Rattle.filing.specs.Filing.{filedOf}
 use Rattle.queue.specs.Queues.{queueFiled}
 use Rattle.queue.specs.Records.{issueFrom}
 use Rattle.queue.specs.History.{History, start, file, queue, join, shelfOf}
-use Rattle.record.specs.Lent.{over}
-use Rattle.skogmund.specs.Entries.{code}
-use Rattle.skogmund.specs.Shelves.{noRoom, isShelf, Done, done, emptied, joined, Filed, filed, filedField, filedQueue, Shown, shown, slotValues, slotShown}
-use Rattle.skogmund.proofs.Answered.{field-left, queue-left}
+use Rattle.record.specs.Lent.{Done, done}
+use Rattle.record.specs.Records.{withCount}
+use Rattle.skogmund.specs.Entries.{code, doneBoth, ifRoom}
+use Rattle.skogmund.specs.Shelves.{isShelf, emptied, joined, filedField, filedQueue, slotNumbers, slotShown}
+use Rattle.skogmund.proofs.Answered.{room-left, field-left, queue-left}
 use Rattle.demands.specs.Histories.{Given, Leaves, fieldOf}
 use Rattle.demands.proofs.ShelvesAsOctets.{issue-small, history-read-back}
 
@@ -31,51 +32,49 @@ says : (h : History) (s : List ℕ) → Leaves h s → shelfIn s ≡ shelfOf h
 says h s l = ap shelfIn (l .left) ∙ history-read-back h (l .given)
 
 -- 0 says that there was room
-done-left : (t : Bool) (s after s′ : List ℕ) → done 0 s′ ≡ cond t (done 0 after) (done noRoom s) → s′ ≡ after
-done-left true s after s′ e = ap (λ (x : Done). x .shelf) e
-done-left false s after s′ e = absurd (omega (arith, ap (λ (x : Done). x .answer) e))
+left-by : {B : Type 0} (t : Bool) (after before later : B) → done 0 later ≡ ifRoom t after before → later ≡ after
+left-by {B} t after before later e = ap (λ (x : Done ℕ B). x .lent) e ∙ room-left t after before (sym (ap (λ (x : Done ℕ B). x .answer) e)) .1
 
 pub c-empties : (s s′ : List ℕ) → done 0 s′ ≡ emptied s → Leaves start s′
 unfolding emptied Given shelfOf
-c-empties s s′ e = record { given = tt; left = done-left (isShelf s) s _ s′ e ∙ sym empty-zeros }
+c-empties s s′ e = record { given = tt; left = left-by (isShelf s) _ s s′ e ∙ sym empty-zeros }
 
 pub c-joins : (g h : History) (s other s′ : List ℕ) → Leaves g s → Leaves h other → done 0 s′ ≡ joined s other → Leaves (join g h) s′
 unfolding joined Given shelfOf
 c-joins g h s other s′ l m e =
     record {
       given = (l .given, m .given);
-      left = done-left (isShelf s && isShelf other) s (joinOctets s other) s′ e ∙ ap₂ (λ (a b : Shelf). octetsOf (joinShelf a b)) (says g s l) (says h other m);
+      left = left-by (isShelf s && isShelf other) (joinOctets s other) s s′ e ∙ ap₂ (λ (a b : Shelf). octetsOf (joinShelf a b)) (says g s l) (says h other m);
     }
 
-pub c-files : (h : History) (s : List ℕ) (slot stored : ℕ) (s1 s3 s4 s5 s7 places s′ places′ : List ℕ) → Leaves h s → AllOctets s1 → filed 0 s′ places′ ≡ filedField s slot stored s1 s3 s4 s5 s7 places
+pub c-files : (h : History) (s : List ℕ) (slot stored : ℕ) (s1 s3 s4 s5 s7 places s′ places′ : List ℕ) → Leaves h s → AllOctets s1 → doneBoth 0 s′ places′ ≡ filedField s slot stored s1 s3 s4 s5 s7 places
     → Leaves (file slot (fieldOf stored s1 s3 s4 s5 s7) h) s′
 unfolding Given shelfOf
 c-files h s slot stored s1 s3 s4 s5 s7 places s′ places′ l a e =
-    let x = field-left s slot stored s1 s3 s4 s5 s7 places (sym (ap (λ (x : Filed). x .answer) e)) in
+    let x = field-left s slot stored s1 s3 s4 s5 s7 places (sym (ap (λ (x : Done ℕ (List ℕ × List ℕ)). x .answer) e)) in
     record {
       given = (a, issue-small stored (x .0 .0), l .given);
-      left = ap (λ (x : Filed). x .shelf) e ∙ x .1 ∙ ap (λ (y : Shelf). octetsOf (filedOf y slot (issueFrom stored) s1 s3 s4 s5 s7 .shelf)) (says h s l);
+      left = ap (λ (x : Done ℕ (List ℕ × List ℕ)). x .lent .0) e ∙ x .1 ∙ ap (λ (y : Shelf). octetsOf (filedOf y slot (issueFrom stored) s1 s3 s4 s5 s7 .shelf)) (says h s l);
     }
 
-pub c-files-queue : (h : History) (s q places s′ places′ : List ℕ) → Leaves h s → AllOctets q → filed 0 s′ places′ ≡ filedQueue s q places → Leaves (queue q h) s′
+pub c-files-queue : (h : History) (s q places s′ places′ : List ℕ) → Leaves h s → AllOctets q → doneBoth 0 s′ places′ ≡ filedQueue s q places → Leaves (queue q h) s′
 unfolding Given shelfOf
 c-files-queue h s q places s′ places′ l a e =
-    let x = queue-left s q places (sym (ap (λ (x : Filed). x .answer) e)) in
+    let x = queue-left s q places (sym (ap (λ (x : Done ℕ (List ℕ × List ℕ)). x .answer) e)) in
     record {
       given = (a, l .given);
-      left = ap (λ (x : Filed). x .shelf) e ∙ x .2 ∙ ap (λ (y : Shelf). octetsOf (queueFiled y q .shelf)) (says h s l);
+      left = ap (λ (x : Done ℕ (List ℕ × List ℕ)). x .lent .0) e ∙ x .2 ∙ ap (λ (y : Shelf). octetsOf (queueFiled y q .shelf)) (says h s l);
     }
 
 -- what the history's slot holds; `greatest-card` says which card that is
-pub c-shows : (h : History) (s : List ℕ) (slot : ℕ) (values values′ : List ℤ) → Leaves h s → shown 0 values′ ≡ slotShown s slot values
-    → (slot < 64) × (values′ ≡ over values (slotValues (slotAt (shelfOf h) slot)))
+pub c-shows : (h : History) (s : List ℕ) (slot : ℕ) (values values′ : List ℤ) → Leaves h s → done 0 values′ ≡ slotShown s slot values
+    → (slot < 64) × (values′ ≡ withCount (slotNumbers (slotAt (shelfOf h) slot)) values)
 unfolding slotShown
-c-shows h s slot values values′ l e = by (ltb 63 slot) refl (isShelf s && leb 64 (length values)) e
+c-shows h s slot values values′ l e = by (ltb 63 slot) refl e
   where
-    by : (t : Bool) → ltb 63 slot ≡ t → (u : Bool) → shown 0 values′ ≡ cond t (shown (code 16 0 0) values) (cond u (shown 0 (over values (slotValues (slotAt (shelfIn s) slot)))) (shown noRoom values))
-        → (slot < 64) × (values′ ≡ over values (slotValues (slotAt (shelfOf h) slot)))
-    by true f u e = absurd (omega (arith, ap (λ (x : Shown). x .answer) e))
-    by false f true e =
+    by : (t : Bool) → ltb 63 slot ≡ t → done 0 values′ ≡ cond t (done (code 16 0 0) values) (ifRoom (isShelf s && leb 64 (length values)) (withCount (slotNumbers (slotAt (shelfIn s) slot)) values) values)
+        → (slot < 64) × (values′ ≡ withCount (slotNumbers (slotAt (shelfOf h) slot)) values)
+    by true f e = absurd (omega (arith, ap (λ (x : Done ℕ (List ℤ)). x .answer) e))
+    by false f e =
         let small = ltb-false 63 slot f in
-        (omega (arith, small), ap (λ (x : Shown). x .values) e ∙ ap (λ (y : Shelf). over values (slotValues (slotAt y slot))) (says h s l))
-    by false f false e = absurd (omega (arith, ap (λ (x : Shown). x .answer) e))
+        (omega (arith, small), left-by (isShelf s && leb 64 (length values)) _ values values′ e ∙ ap (λ (y : Shelf). withCount (slotNumbers (slotAt y slot)) values) (says h s l))

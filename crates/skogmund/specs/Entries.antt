@@ -1,14 +1,16 @@
--- What the entries for C answer: a refusal as one number, and what is left in the lent buffers.
+-- What the entries for C answer: a refusal as one number, and what is then in the lent buffers. Each contract is one equation: `done`, of the
+-- answer and of what was lent as it is afterwards, is what a definition makes of what was given.
 -- Assumes nothing.
 use Prim.Native.Nat.{ℕ, _+_, _*_, _^_}
 use mathlib.Core.Path.{_≡_}
 use mathlib.Core.Bool.{Bool, cond, _&&_}
-use mathlib.Core.List.{List}
+use mathlib.Core.List.{List, [], _∷_}
 use lib.Dec.{ltb, leb}
 use lib.IntN.{ℤ}
-use lib.ListN.{length, set}
+use lib.ListN.{length}
 use Rattle.layout.specs.Outcomes.{Outcome, refused, read}
 use Rattle.layout.specs.declared.Refusal.{Refusal}
+use Rattle.packing.specs.Unpacking.{unpackOutcome, rowAfter}
 use Rattle.report.specs.Texts.{listing}
 use Rattle.record.specs.Lent.{Done, done, over}
 use Rattle.record.specs.Records.{sectionOutcome, intoRow}
@@ -25,11 +27,30 @@ abbrev pub coded : Outcome → ℕ
 coded (refused number section place) = code number section place
 coded (read vs) = 0
 
+-- 18: a buffer of another length, or one with too few places
+abbrev pub noRoom : ℕ
+noRoom = code 18 0 0
+
+-- the answer and two buffers
+abbrev pub doneBoth : ℕ → List ℕ → List ℕ → Done ℕ (List ℕ × List ℕ)
+doneBoth answer one other = done answer (one, other)
+
+-- 0 and what is written where there is room, and else 18 and what was there before
+abbrev pub ifRoom : {B : Type 0} → Bool → B → B → Done ℕ B
+ifRoom room after before = cond room (done 0 after) (done noRoom before)
+
+-- a refusal leaves what was lent as it was
+abbrev pub Untouched : {B : Type 0} → B → Done ℕ B → Type 0
+Untouched before x = (x .answer ≡ 0 → ⊥) → x .lent ≡ before
+
+-- ---- sections
+
+unfoldable pub rowUnpacked : List ℕ → List ℕ → List ℕ → Done ℕ (List ℕ)
+rowUnpacked five seven row = done (coded (unpackOutcome five seven row)) (rowAfter five seven row)
+
 -- a refusal, or zeros for none, as one number
 abbrev pub inOneNumber : {B : Type 0} → Done Refusal B → Done ℕ B
 inOneNumber x = done (codeOf (x .answer)) (x .lent)
-
--- ---- the record of a section
 
 unfoldable pub recordTold : ℕ → List ℕ → List ℤ → Done ℕ (List ℤ)
 recordTold section s row = inOneNumber (intoRow (sectionOutcome section s) row)
@@ -40,8 +61,5 @@ recordTold section s row = inOneNumber (intoRow (sectionOutcome section s) row)
 abbrev pub fits : List ℕ → List ℕ → List ℕ → Bool
 fits q text places = leb (length (listing q)) (length text) && ltb 0 (length places)
 
--- the answer and the two buffers afterwards: 18 leaves both as they were
-pub record ListInto (q text places : List ℕ) (answer : ℕ) (text′ places′ : List ℕ) : Type 0 where
-  pub answers : answer ≡ cond (fits q text places) 0 (code 18 0 0)
-  pub writes : text′ ≡ cond (fits q text places) (over text (listing q)) text
-  pub counts : places′ ≡ cond (fits q text places) (set places 0 (length (listing q))) places
+unfoldable pub listingTold : List ℕ → List ℕ → List ℕ → Done ℕ (List ℕ × List ℕ)
+listingTold q text places = ifRoom (fits q text places) (over text (listing q), over places (length (listing q) ∷ [])) (text, places)

@@ -2,9 +2,8 @@
 // number: 0 for none, else number x 2^40 + section x 2^32 + place.
 ghost use mathlib.Core.Path.{_≡_};
 ghost use Prim.Native.Nat.{_≤_};
-ghost use Rattle.packing.specs.Unpacking.{unpackOutcome, rowAfter};
 ghost use Rattle.record.specs.Lent.{done};
-ghost use Rattle.skogmund.specs.Entries.{codeOf, coded, recordTold, ListInto};
+ghost use Rattle.skogmund.specs.Entries.{codeOf, doneBoth, rowUnpacked, recordTold, listingTold};
 use layout::Refusal;
 use packing::Unpacked;
 
@@ -16,8 +15,7 @@ pub(crate) const NO_ROOM: u64 = 19791209299968;
 
 #[no_mangle]
 pub extern "C" fn skogmund_unpack(section5: &[u8], section7: &[u8], row: &mut [u32]) -> u64
-    ensures { λ r. ⌜ r ≡ coded (unpackOutcome (now (section5 .entry)) (now (section7 .entry)) (now (row .entry))) ⌝ }
-    ensures { λ _. ⌜ now (row .exit) ≡ rowAfter (now (section5 .entry)) (now (section7 .entry)) (now (row .entry)) ⌝ }
+    ensures { λ r. ⌜ done r (now (row .exit)) ≡ rowUnpacked (now (section5 .entry)) (now (section7 .entry)) (now (row .entry)) ⌝ }
 {
     let answer = packing::unpack(section5, section7, row);
     let Unpacked::Refused(x) = answer else {
@@ -45,7 +43,7 @@ pub(crate) fn code(x: Refusal) -> u64
 // What the program `listing` prints for this queue, at the start of the text buffer, and its length in the first place of `length`.
 #[no_mangle]
 pub extern "C" fn skogmund_list(queue: &[u8], text: &mut [u8], length: &mut [u64]) -> u64
-    ensures { λ r. ⌜ ListInto (now (queue .entry)) (now (text .entry)) (now (length .entry)) r (now (text .exit)) (now (length .exit)) ⌝ }
+    ensures { λ r. ⌜ doneBoth r (now (text .exit)) (now (length .exit)) ≡ listingTold (now (queue .entry)) (now (text .entry)) (now (length .entry)) ⌝ }
 {
     let mut room = report::listing_buffer();
     let end = report::whole_listing(queue, &mut room);

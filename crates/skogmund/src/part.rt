@@ -1,13 +1,14 @@
 // Where a part of a section stands: C cannot be handed a view of it.
 ghost use mathlib.Core.Path.{_≡_};
 ghost use Prim.Native.Nat.{_^_, _<_};
-ghost use Rattle.skogmund.specs.Parts.{partSpan, firstOctet, PartInto};
+ghost use Rattle.record.specs.Lent.{done};
+ghost use Rattle.skogmund.specs.Parts.{partSpan, firstOctet, partTold};
 use layout::Span;
 
 // The first octet of a part (from 1) and its length, in the first two places.
 #[no_mangle]
 pub extern "C" fn skogmund_part(part: u8, s: &[u8], k: u64, span: &mut [u64]) -> u64
-    ensures { λ r. ⌜ PartInto part (now (s .entry)) k (now (span .entry)) r (now (span .exit)) ⌝ }
+    ensures { λ r. ⌜ done r (now (span .exit)) ≡ partTold part (now (s .entry)) k (now (span .entry)) ⌝ }
 {
     if span.len() < 2 {
         return crate::NO_ROOM;

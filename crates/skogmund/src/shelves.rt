@@ -6,8 +6,10 @@ ghost use lib.IntN.{pos};
 ghost use lib.ListN.{length, take, drop};
 ghost use Rattle.octets.specs.Octets.{part};
 ghost use Rattle.queue.specs.Records.{issueFrom};
-ghost use Rattle.skogmund.specs.Shelves.{done, emptied, joined, filed, keptIn, filedField, filedQueue, slotValues, shown, slotShown};
-ghost use Rattle.record.specs.Lent.{over};
+ghost use Rattle.record.specs.Lent.{done};
+ghost use Rattle.record.specs.Records.{withCount};
+ghost use Rattle.skogmund.specs.Entries.{doneBoth};
+ghost use Rattle.skogmund.specs.Shelves.{emptied, joined, keptIn, filedField, filedQueue, slotNumbers, slotShown};
 use filing::Answer;
 use filing::Issue;
 use queue::Counts;
@@ -65,7 +67,7 @@ pub extern "C" fn skogmund_file<'s, 'a, 'k>(
     section7: &'a [u8],
     kept: &'k mut [u64],
 ) -> u64
-    ensures { λ r. ⌜ filed r (now (shelf .exit)) (now (kept .exit)) ≡ filedField (now (shelf .entry)) slot issue_plus_1 (now (section1 .entry)) (now (section3 .entry)) (now (section4 .entry)) (now (section5 .entry)) (now (section7 .entry)) (now (kept .entry)) ⌝ }
+    ensures { λ r. ⌜ doneBoth r (now (shelf .exit)) (now (kept .exit)) ≡ filedField (now (shelf .entry)) slot issue_plus_1 (now (section1 .entry)) (now (section3 .entry)) (now (section4 .entry)) (now (section5 .entry)) (now (section7 .entry)) (now (kept .entry)) ⌝ }
 {
     if 4294967296 < issue_plus_1 {
         return MALFORMED;
@@ -101,7 +103,7 @@ fn issue_from(stored: u64) -> Issue
 }
 
 fn keep_flag(shelf: &mut [u8], kept: &mut [u64], after: Shelf, flag: u64) -> u64
-    ensures { λ r. ⌜ filed r (now (shelf .exit)) (now (kept .exit)) ≡ keptIn (now (shelf .entry)) (now (kept .entry)) after (flag ∷ []) ⌝ }
+    ensures { λ r. ⌜ doneBoth r (now (shelf .exit)) (now (kept .exit)) ≡ keptIn (now (shelf .entry)) (now (kept .entry)) after (flag ∷ []) ⌝ }
 {
     if shelf.len() != SHELF {
         return crate::NO_ROOM;
@@ -117,7 +119,7 @@ fn keep_flag(shelf: &mut [u8], kept: &mut [u64], after: Shelf, flag: u64) -> u64
 // Files a queue; the counts are its records kept, passed and refused.
 #[no_mangle]
 pub extern "C" fn skogmund_file_queue(shelf: &mut [u8], queue: &[u8], counts: &mut [u64]) -> u64
-    ensures { λ r. ⌜ filed r (now (shelf .exit)) (now (counts .exit)) ≡ filedQueue (now (shelf .entry)) (now (queue .entry)) (now (counts .entry)) ⌝ }
+    ensures { λ r. ⌜ doneBoth r (now (shelf .exit)) (now (counts .exit)) ≡ filedQueue (now (shelf .entry)) (now (queue .entry)) (now (counts .entry)) ⌝ }
 {
     let done = queue::file(shelf_octets::read(shelf), queue);
     let after = done.shelf;
@@ -129,7 +131,7 @@ pub extern "C" fn skogmund_file_queue(shelf: &mut [u8], queue: &[u8], counts: &m
 }
 
 fn keep_counts(shelf: &mut [u8], counts: &mut [u64], after: Shelf, n: Counts) -> u64
-    ensures { λ r. ⌜ filed r (now (shelf .exit)) (now (counts .exit)) ≡ keptIn (now (shelf .entry)) (now (counts .entry)) after (n .kept ∷ n .passed ∷ n .refused ∷ []) ⌝ }
+    ensures { λ r. ⌜ doneBoth r (now (shelf .exit)) (now (counts .exit)) ≡ keptIn (now (shelf .entry)) (now (counts .entry)) after (n .kept ∷ n .passed ∷ n .refused ∷ []) ⌝ }
 {
     if shelf.len() != SHELF {
         return crate::NO_ROOM;
@@ -147,7 +149,7 @@ fn keep_counts(shelf: &mut [u8], counts: &mut [u64], after: Shelf, n: Counts) ->
 // What a slot holds: how many values follow, and they.
 #[no_mangle]
 pub extern "C" fn skogmund_slot(shelf: &[u8], slot: u64, values: &mut [i64]) -> u64
-    ensures { λ r. ⌜ shown r (now (values .exit)) ≡ slotShown (now (shelf .entry)) slot (now (values .entry)) ⌝ }
+    ensures { λ r. ⌜ done r (now (values .exit)) ≡ slotShown (now (shelf .entry)) slot (now (values .entry)) ⌝ }
 {
     if 63 < slot {
         return NO_SLOT;
@@ -165,7 +167,7 @@ pub extern "C" fn skogmund_slot(shelf: &[u8], slot: u64, values: &mut [i64]) -> 
 
 fn show_slot(values: &mut [i64], slot: Slot)
     requires { ⌜ 64 ≤ length (now values) ⌝ }
-    ensures { λ _. ⌜ now (values .exit) ≡ over (now (values .entry)) (slotValues slot) ⌝ }
+    ensures { λ _. ⌜ now (values .exit) ≡ withCount (slotNumbers slot) (now (values .entry)) ⌝ }
 {
     if !slot.held {
         values[0] = 0;

@@ -1,18 +1,19 @@
 -- `skogmund_unpack`: what `unpack` answers, as one number.
 -- Assumes nothing.
 use borrow.Author.Needs.{needs}
-use mathlib.Core.Path.{sym, ap, _∙_}
+use mathlib.Core.Path.{sym, ap, ap₂, _∙_}
 use Rattle.packing.specs.Unpacking.{toldUnpacked}
-use Rattle.skogmund.specs.Entries.{coded}
+use Rattle.record.specs.Lent.{done}
+use Rattle.skogmund.specs.Entries.{coded, rowUnpacked}
 use Rattle.refusals.proofs.RefusalNumbers.{unpacking-refuses}
 use Rattle.skogmund.proofs.skogmund_unpack.Statement.{statement}
 use Rattle.skogmund.proofs.skogmund_unpack.Tie as tie
 
 returns : tie.Need-returns
-unfolding toldUnpacked
+unfolding toldUnpacked rowUnpacked
 returns c =
     let u = c .before .before .before .before .unpack .ensures in
-    (sym (ap coded (sym (u .answers) ∙ ap toldUnpacked (c .enum-told .given .1))), u .leaves)
+    ap₂ done (sym (ap coded (sym (u .answers) ∙ ap toldUnpacked (c .enum-told .given .1)))) (u .leaves)
 
 code-requires : tie.Need-code-requires
 code-requires c κs =
@@ -20,10 +21,10 @@ code-requires c κs =
     unpacking-refuses _ _ _ (c .before .answer .given .0 .0) (sym (ap toldUnpacked (c .before .answer .given .1)) ∙ u .answers) .within
 
 returns-2 : tie.Need-returns-2
-unfolding toldUnpacked
+unfolding toldUnpacked rowUnpacked
 returns-2 c =
     let u = c .before .before .before .before .before .before .unpack .ensures in
-    (c .code .ensures ∙ sym (ap coded (sym (u .answers) ∙ ap toldUnpacked (c .before .before .answer .given .1))), u .leaves)
+    ap₂ done (c .code .ensures ∙ sym (ap coded (sym (u .answers) ∙ ap toldUnpacked (c .before .before .answer .given .1)))) (u .leaves)
 
 pub skogmund-unpack-spec : {M : Type 1} → statement M
 skogmund-unpack-spec =

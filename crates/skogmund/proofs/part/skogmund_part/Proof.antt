@@ -1,15 +1,21 @@
 -- `skogmund_part`: a part is within the section, so that the number of its first octet has room.
 -- Assumes nothing.
 use native.Mathlib.Omega.{arith}
+use mathlib.Core.Path.{ap}
+use mathlib.Core.List.{[], _∷_}
+use lib.Seq.{sets-eq}
 use denote.Ref.{now}
 use borrow.Author.Needs.{needs}
-use borrow.Author.Tests.{lt-ltb, le-ltb}
+use borrow.Author.Tests.{lt-leb, le-leb}
+use Rattle.record.specs.Lent.{done}
+use Rattle.skogmund.specs.Parts.{partTold}
 use Rattle.skogmund.proofs.PartsWithin.{part-within}
 use Rattle.skogmund.proofs.part.skogmund_part.Statement.{statement}
 use Rattle.skogmund.proofs.part.skogmund_part.Tie as tie
 
 returns : tie.Need-returns
-returns c = let few = lt-ltb _ _ (c .if1 .taken) in record { answers = rw few; writes = rw few }
+unfolding partTold
+returns c = rw (lt-leb 2 _ (c .if1 .taken))
 
 first-octet-requires : tie.Need-first-octet-requires
 first-octet-requires c κs =
@@ -18,12 +24,12 @@ first-octet-requires c κs =
     omega (arith, within)
 
 returns-2 : tie.Need-returns-2
+unfolding partTold
 returns-2 c =
-    let enough = le-ltb _ _ (c .before .before .if1 .left) in
-    record {
-      answers = rw enough;
-      writes = rw (enough, ← c .before .span-of .ensures, ← c .first-octet .ensures);
-    }
+    let a = c .before .before .before .before .before .args in
+    let enough = c .before .before .if1 .left in
+    let x = c .before .span-of .result in
+    rw (le-leb 2 _ enough, ← c .before .span-of .ensures, ← c .first-octet .ensures) (ap (done 0) (sets-eq (c .first-octet .result ∷ x .length ∷ []) (now (a .span)) 0 enough))
 
 pub skogmund-part-spec : {M : Type 1} → statement M
 skogmund-part-spec =

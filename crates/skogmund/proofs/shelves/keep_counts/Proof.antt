@@ -9,7 +9,8 @@ use borrow.Author.Needs.{needs}
 use borrow.Author.Tests.{eq-eqb, ne-eqb, le-leb, lt-leb}
 use denote.Ref.{now}
 use Rattle.octets.proofs.Free.{free}
-use Rattle.skogmund.specs.Shelves.{filed, keptIn}
+use Rattle.skogmund.specs.Entries.{doneBoth}
+use Rattle.skogmund.specs.Shelves.{keptIn}
 use Rattle.skogmund.proofs.Kept.{written-over}
 use Rattle.skogmund.proofs.shelves.keep_counts.Statement.{statement}
 use Rattle.skogmund.proofs.shelves.keep_counts.Tie as tie
@@ -33,7 +34,7 @@ returns-3 c =
     let e1 = e2 .before in
     let a = e1 .before .before .before .args in
     simp (eq-eqb _ _ (e1 .if1 .left), le-leb 3 _ (e2 .if2 .left))
-    (ap₂ (filed 0)
+    (ap₂ (doneBoth 0)
     (written-over (now (a .shelf)) (a .after) (e1 .if1 .left) (w .write .ensures))
     (sets-eq (a .n .kept ∷ a .n .passed ∷ a .n .refused ∷ []) (now (a .counts)) 0 (e2 .if2 .left)))
 

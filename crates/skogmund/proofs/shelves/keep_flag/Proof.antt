@@ -10,7 +10,8 @@ use borrow.Author.Needs.{needs}
 use borrow.Author.Tests.{eq-eqb, ne-eqb, le-leb}
 use denote.Ref.{now}
 use Rattle.octets.proofs.Free.{free}
-use Rattle.skogmund.specs.Shelves.{filed, keptIn}
+use Rattle.skogmund.specs.Entries.{doneBoth}
+use Rattle.skogmund.specs.Shelves.{keptIn}
 use Rattle.skogmund.proofs.Kept.{written-over}
 use Rattle.skogmund.proofs.shelves.keep_flag.Statement.{statement}
 use Rattle.skogmund.proofs.shelves.keep_flag.Tie as tie
@@ -32,7 +33,7 @@ returns-3 c =
     let a = e1 .before .before .before .args in
     let some : 1 ≤ length (now (a .kept)) = omega (arith, e2 .if2 .left) in
     simp (eq-eqb _ _ (e1 .if1 .left), le-leb 1 _ some)
-    (ap₂ (filed 0)
+    (ap₂ (doneBoth 0)
     (written-over (now (a .shelf)) (a .after) (e1 .if1 .left) (w .write .ensures))
     (sets-eq (a .flag ∷ []) (now (a .kept)) 0 some))
 

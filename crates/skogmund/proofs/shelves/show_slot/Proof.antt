@@ -2,7 +2,8 @@
 -- Assumes nothing.
 use Prim.Native.Nat.{_≤_}
 use native.Mathlib.Omega.{arith}
-use mathlib.Core.Path.{_≡_, refl, _∙_}
+use mathlib.Core.Path.{_≡_, refl, sym, ap, _∙_}
+use mathlib.Core.Bool.{true, false}
 use mathlib.Core.List.{List, [], _∷_, _++_, map}
 use lib.IntN.{ℤ, pos}
 use lib.ListN.{length, drop, set, length-set}
@@ -13,8 +14,10 @@ use mir.Syntax.{w64}
 use mir.Val.{toZ}
 use mir.ValLaws.{toZ-pos}
 use Rattle.octets.specs.Octets.{part}
+use Rattle.shelf.specs.declared.Slot.{Slot}
 use Rattle.text.proofs.Sizes.{wide, wide-kept, wide-fits}
-use Rattle.skogmund.specs.Shelves.{slotValues}
+use Rattle.record.specs.Records.{withCount}
+use Rattle.skogmund.specs.Shelves.{cardValues, slotNumbers}
 use Rattle.skogmund.proofs.Kept.{card-over}
 use Rattle.skogmund.proofs.shelves.show_slot.Statement.{statement}
 use Rattle.skogmund.proofs.shelves.show_slot.Tie as tie
@@ -23,11 +26,20 @@ first-set : (l : List ℤ) (z : ℤ) → 64 ≤ length l → set l 0 z ≡ z ∷
 first-set [] z h = absurd (omega arith)
 first-set (x ∷ l) z h = refl
 
+none-held : (x : Slot) → x .held ≡ false → slotNumbers x ≡ []
+unfolding slotNumbers
+none-held x e = rw e
+
+card-held : (x : Slot) → x .held ≡ true → slotNumbers x ≡ cardValues (x .card)
+unfolding slotNumbers
+card-held x e = rw e
+
 returns : tie.Need-returns
-unfolding slotValues
+unfolding withCount
 returns c =
     let s = c .before .before in
-    rw (not-true (s .args .slot .held) (c .if1 .taken)) (first-set (now (s .args .values)) (pos 0) (s .pre))
+    first-set (now (s .args .values)) (pos 0) (s .pre)
+    ∙ ap (λ (ns : List ℤ). withCount ns (now (s .args .values))) (sym (none-held (s .args .slot) (not-true (s .args .slot .held) (c .if1 .taken))))
 
 cast-values : tie.Need-cast-values
 cast-values c = wide-fits (c .before .before .before .before .before .before .args .slot .card .year) (c .struct-told .given .0 .1)
@@ -36,7 +48,7 @@ same-length-2 : tie.Need-same-length-2
 same-length-2 c = simp length-set at (c .before .show-product .kept .0)
 
 returns-2 : tie.Need-returns-2
-unfolding slotValues part
+unfolding withCount part
 returns-2 c =
     let p = c .before in
     let k8 = p .before .before in
@@ -54,10 +66,10 @@ returns-2 c =
     let second = toZ-pos w64 (x .second) (omega (arith, known .1 .1 .1 .1 .0)) in
     let issue = toZ-pos w64 (x .issue) (omega (arith, known .1 .1 .1 .1 .1 .0)) in
     let year = wide-kept (x .year) (told .struct-told .given .0 .1) in
-    rw (not-false (s .args .slot .held) (e .if1 .left))
-    (p .show-product .ensures
+    p .show-product .ensures
     ∙ card-over v₀ (pos 34 ∷ wide (x .year) ∷ toZ w64 (x .month) ∷ toZ w64 (x .day) ∷ toZ w64 (x .hour) ∷ toZ w64 (x .minute) ∷ toZ w64 (x .second) ∷ toZ w64 (x .issue) ∷ []) m refl (s .pre)
-    ∙ (λ i. pos 34 ∷ year i ∷ month i ∷ day i ∷ hour i ∷ minute i ∷ second i ∷ issue i ∷ (m ++ drop 35 v₀)))
+    ∙ (λ i. pos 34 ∷ year i ∷ month i ∷ day i ∷ hour i ∷ minute i ∷ second i ∷ issue i ∷ (m ++ drop 35 v₀))
+    ∙ ap (λ (ns : List ℤ). withCount ns v₀) (sym (card-held (s .args .slot) (not-false (s .args .slot .held) (e .if1 .left))))
 
 pub show-slot-spec : {M : Type 1} → statement M
 show-slot-spec =

@@ -12,7 +12,8 @@ use Rattle.filing.specs.declared.Issue.{Issue}
 use Rattle.filing.specs.declared.Filed.{Filed}
 use Rattle.filing.specs.Filing.{filedOf}
 use Rattle.queue.specs.Records.{issueFrom}
-use Rattle.skogmund.specs.Shelves.{filed, fieldKept, filedField}
+use Rattle.skogmund.specs.Entries.{doneBoth}
+use Rattle.skogmund.specs.Shelves.{fieldKept, filedField}
 use Rattle.refusals.proofs.RefusalNumbers.{filing-refuses}
 use Rattle.skogmund.proofs.shelves.skogmund_file.Statement.{statement}
 use Rattle.skogmund.proofs.shelves.skogmund_file.Tie as tie
@@ -67,7 +68,7 @@ returns-4 c =
     let a = c .before .before in
     let f = a .before .before .before in
     rw (le-ltb _ _ (else-of f .if1 .left), ← filed-is f, a .answer .given .1)
-    (ap (λ (n : ℕ). filed n (now (start-of f .args .shelf)) (now (start-of f .args .kept))) (c .code .ensures))
+    (ap (λ (n : ℕ). doneBoth n (now (start-of f .args .shelf)) (now (start-of f .args .kept))) (c .code .ensures))
 
 pub skogmund-file-spec : {M : Type 1} → statement M
 skogmund-file-spec =

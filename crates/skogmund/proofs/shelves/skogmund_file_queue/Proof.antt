@@ -9,7 +9,8 @@ use Rattle.shelf.specs.declared.Shelf.{Shelf}
 use Rattle.shelf_octets.specs.ShelfOctets.{shelfIn}
 use Rattle.queue.specs.declared.QueueFiled.{QueueFiled}
 use Rattle.queue.specs.Queues.{queueFiled}
-use Rattle.skogmund.specs.Shelves.{filed, queueKept, filedQueue}
+use Rattle.skogmund.specs.Entries.{doneBoth}
+use Rattle.skogmund.specs.Shelves.{queueKept, filedQueue}
 use Rattle.refusals.proofs.RefusalNumbers.{queue-refuses}
 use Rattle.skogmund.proofs.shelves.skogmund_file_queue.Statement.{statement}
 use Rattle.skogmund.proofs.shelves.skogmund_file_queue.Tie as tie
@@ -39,7 +40,7 @@ unfolding filedQueue queueKept
 returns-2 c =
     let a = c .before .before in
     let f = a .before .before .before in
-    rw (← filed-is f, a .answer2 .given .1) (ap (λ (n : ℕ). filed n (now (start-of f .args .shelf)) (now (start-of f .args .counts))) (c .code .ensures))
+    rw (← filed-is f, a .answer2 .given .1) (ap (λ (n : ℕ). doneBoth n (now (start-of f .args .shelf)) (now (start-of f .args .counts))) (c .code .ensures))
 
 pub skogmund-file-queue-spec : {M : Type 1} → statement M
 skogmund-file-queue-spec =

@@ -8,8 +8,9 @@ use Rattle.octets.proofs.Free.{free}
 use Rattle.shelf.specs.declared.Shelf.{Shelf}
 use Rattle.shelf.specs.declared.Slot.{Slot}
 use Rattle.shelf.specs.Shelves.{slotAt}
-use Rattle.record.specs.Lent.{over}
-use Rattle.skogmund.specs.Shelves.{shown, slotValues, slotShown}
+use Rattle.record.specs.Lent.{done}
+use Rattle.record.specs.Records.{withCount}
+use Rattle.skogmund.specs.Shelves.{slotNumbers, slotShown}
 use Rattle.skogmund.proofs.shelves.skogmund_slot.Statement.{statement}
 use Rattle.skogmund.proofs.shelves.skogmund_slot.Tie as tie
 
@@ -35,9 +36,9 @@ returns-4 c =
     let e1 = e2 .before in
     let a = e1 .before .before .args in
     simp (le-ltb _ _ (e1 .if1 .left), eq-eqb _ _ (e2 .if2 .left), le-leb 64 _ (e3 .if3 .left))
-    (ap (shown 0)
+    (ap (done 0)
     (w .show-slot .ensures
-    ∙ ap (λ (x : Slot). over (now (a .values)) (slotValues x)) (held .slot-of .ensures ∙ ap (λ (s : Shelf). slotAt s (a .slot)) (held .before .read .ensures))))
+    ∙ ap (λ (x : Slot). withCount (slotNumbers x) (now (a .values))) (held .slot-of .ensures ∙ ap (λ (s : Shelf). slotAt s (a .slot)) (held .before .read .ensures))))
 
 pub skogmund-slot-spec : {M : Type 1} → statement M
 skogmund-slot-spec = tie.close (tie.spec returns returns-2 returns-3 free free (λ c κs. search needs) (λ c. search needs) returns-4)
