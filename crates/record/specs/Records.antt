@@ -81,3 +81,7 @@ refusalOf (read vs) = refusal 0 0 0
 -- a refusal of no place; with number 0, zeros
 abbrev pub refusalNumbered : ℕ → ℕ → Refusal
 refusalNumbered number section = cond (eqb number 0) (refusal 0 0 0) (refusal number section 0)
+
+-- the first of two, where zeros are none
+abbrev pub firstRefusal : Refusal → Refusal → Refusal
+firstRefusal a b = cond (eqb (a .number) 0) b a

@@ -122,22 +122,28 @@ module _ (s : List ℕ) (slot stored : ℕ) (s1 s3 s4 s5 s7 places : List ℕ) w
   abbrev by : Filing → Done ℕ (List ℕ × List ℕ)
   by f = fieldKept s places (filedBy (shelfIn s) slot f .shelf) (filedBy (shelfIn s) slot f .answer)
 
+  kept-exactly : (t : Bool) (x : Shelf) → (fieldKept s places x (keptIf t) .answer ≡ 0) ↔ Room s places 1
+  unfolding fieldKept
+  kept-exactly true x = keep-exactly s places x (1 ∷ [])
+  kept-exactly false x = keep-exactly s places x (0 ∷ [])
+
+  kept-left : (t : Bool) (x : Shelf) → fieldKept s places x (keptIf t) .answer ≡ 0 → fieldKept s places x (keptIf t) .lent .0 ≡ octetsOf x
+  unfolding fieldKept
+  kept-left true x e = keep-left s places x (1 ∷ []) e
+  kept-left false x e = keep-left s places x (0 ∷ []) e
+
   -- the shelf that filing makes of these octets is then the one that is left
   pub field-left : made .answer ≡ 0 → Fits × (made .lent .0 ≡ octetsOf (filedOf (shelfIn s) slot (issueFrom stored) s1 s3 s4 s5 s7 .shelf))
   unfolding filedField fieldKept filedOf filedBy
   field-left e = by-number (ltb 4294967296 stored) refl e
     where
-      by-kept : (t : Bool) (x : Shelf) → fieldKept s places x (keptIf t) .answer ≡ 0 → Room s places 1 × (fieldKept s places x (keptIf t) .lent .0 ≡ octetsOf x)
-      by-kept true x e = (keep-exactly s places x (1 ∷ []) .0 e, keep-left s places x (1 ∷ []) e)
-      by-kept false x e = (keep-exactly s places x (0 ∷ []) .0 e, keep-left s places x (0 ∷ []) e)
-
       by-filing : stored ≤ 4294967296 → (f : Filing) → filing ≡ f → by f .answer ≡ 0 → Fits × (by f .lent .0 ≡ octetsOf (filedBy (shelfIn s) slot f .shelf))
       by-filing h (refusedFiling number section place) g e =
           let x = refusal number section place in
           absurd (listed-code filingTable x refl (filing-refuses (shelfIn s) slot (issueFrom stored) s1 s3 s4 s5 s7 x (ap (λ (f : Filing). filedBy (shelfIn s) slot f .answer) g)) e)
       by-filing h (accepted card) g e =
-          let k = by-kept (putOf (shelfIn s) slot card .changed) (putOf (shelfIn s) slot card .shelf) e in
-          ((h, (card, g), k .0), k .1)
+          let put = putOf (shelfIn s) slot card in
+          ((h, (card, g), kept-exactly (put .changed) (put .shelf) .0 e), kept-left (put .changed) (put .shelf) e)
 
       by-number : (t : Bool) → ltb 4294967296 stored ≡ t → cond t (doneBoth (code 19 0 0) s places) (by filing) .answer ≡ 0
           → Fits × (cond t (doneBoth (code 19 0 0) s places) (by filing) .lent .0 ≡ octetsOf (filedBy (shelfIn s) slot filing .shelf))
@@ -151,13 +157,9 @@ module _ (s : List ℕ) (slot stored : ℕ) (s1 s3 s4 s5 s7 places : List ℕ) w
     λ f. (
         ap (λ (t : Bool). cond t (doneBoth (code 19 0 0) s places) (by filing) .answer) (le-ltb _ _ (f .0))
         ∙ ap (λ (g : Filing). by g .answer) (f .1 .1)
-        ∙ by-kept (putOf (shelfIn s) slot (f .1 .0) .changed) (putOf (shelfIn s) slot (f .1 .0) .shelf) (f .2)
+        ∙ kept-exactly (putOf (shelfIn s) slot (f .1 .0) .changed) (putOf (shelfIn s) slot (f .1 .0) .shelf) .1 (f .2)
         ),
   )
-    where
-      by-kept : (t : Bool) (x : Shelf) → Room s places 1 → fieldKept s places x (keptIf t) .answer ≡ 0
-      by-kept true x r = keep-exactly s places x (1 ∷ []) .1 r
-      by-kept false x r = keep-exactly s places x (0 ∷ []) .1 r
 
 abbrev queued : List ℕ → List ℕ → Bool → QueueFiled
 queued s q t = cond t (acceptedQueue (recordsFiled (fromStart (shelfIn s)) (cutOf q .records))) (refusedQueue (shelfIn s) (queueRefusal q))

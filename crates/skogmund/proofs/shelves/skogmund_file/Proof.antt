@@ -1,6 +1,7 @@
 -- `skogmund_file`: 19, or as `filing::file_by_value` answers, and then what is kept.
 -- Assumes nothing.
-use Prim.Native.Nat.{ℕ}
+use Prim.Native.Nat.{ℕ, _≤_, _<_}
+use native.Mathlib.Omega.{arith}
 use mathlib.Core.Path.{_≡_, sym, ap, ap₂, _∙_}
 use borrow.Author.Needs.{needs}
 use borrow.Author.Tests.{lt-ltb, le-ltb}
@@ -30,6 +31,9 @@ filing-of f =
     let a = start-of f .args in
     filedOf (shelfIn (now (a .shelf))) (a .slot) (issueFrom (a .issue-plus-1)) (now (a .section1)) (now (a .section3)) (now (a .section4)) (now (a .section5)) (now (a .section7))
 
+stored-small : (f : tie.After-file-by-value) → start-of f .args .issue-plus-1 ≤ 4294967296
+stored-small f = omega (arith, else-of f .if1 .left)
+
 filed-is : (f : tie.After-file-by-value) → f .file-by-value .result ≡ filing-of f
 filed-is f =
     let a = start-of f .args in
@@ -39,7 +43,9 @@ filed-is f =
 
 returns : tie.Need-returns
 unfolding filedField
-returns c = simp (lt-ltb _ _ (c .if1 .taken))
+returns c =
+    let large : 4294967296 < c .before .before .before .before .before .before .before .before .args .issue-plus-1 = omega (arith, c .if1 .taken) in
+    simp (lt-ltb _ _ large)
 
 code-requires : tie.Need-code-requires
 code-requires c κs =
@@ -52,7 +58,7 @@ returns-2 c =
     let k = c .before .before .before .before in
     let told = k .before .before .before in
     let f = told .before .before .before in
-    rw (le-ltb _ _ (else-of f .if1 .left), ← filed-is f, told .enum-told .given .1) (k .keep-flag .ensures)
+    rw (le-ltb _ _ (stored-small f), ← filed-is f, told .enum-told .given .1) (k .keep-flag .ensures)
 
 returns-3 : tie.Need-returns-3
 unfolding filedField fieldKept
@@ -60,14 +66,14 @@ returns-3 c =
     let k = c .before .before .before .before in
     let told = k .before .before .before in
     let f = told .before .before .before in
-    rw (le-ltb _ _ (else-of f .if1 .left), ← filed-is f, told .enum-told2 .given .1) (k .keep-flag2 .ensures)
+    rw (le-ltb _ _ (stored-small f), ← filed-is f, told .enum-told2 .given .1) (k .keep-flag2 .ensures)
 
 returns-4 : tie.Need-returns-4
 unfolding filedField fieldKept
 returns-4 c =
     let a = c .before .before in
     let f = a .before .before .before in
-    rw (le-ltb _ _ (else-of f .if1 .left), ← filed-is f, a .answer .given .1)
+    rw (le-ltb _ _ (stored-small f), ← filed-is f, a .answer .given .1)
     (ap (λ (n : ℕ). doneBoth n (now (start-of f .args .shelf)) (now (start-of f .args .kept))) (c .code .ensures))
 
 pub skogmund-file-spec : {M : Type 1} → statement M
