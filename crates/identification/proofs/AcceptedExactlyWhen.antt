@@ -9,7 +9,7 @@ use mathlib.Core.List.{List}
 use mathlib.Core.Bool.{Bool, true, false, cond}
 use lib.ListN.{length}
 use lib.Dec.{eqb}
-use borrow.Author.Tests.{le-ltb, ltb-false, ne-eqb, eqb-false}
+use borrow.Author.Tests.{le-ltb, ne-eqb, eqb-false}
 use Rattle.octets.specs.Octets.{beAt}
 use Rattle.layout.specs.Fields.{Value, after, placed, AllAllowed}
 use Rattle.layout.specs.Outcomes.{read, firstOf, headReasons}
@@ -65,7 +65,6 @@ accepted-follows s vs e =
     let date = fine .1 .1 .1 .1 .1 .1 .1 in (
       template,
       record {
-        small = ltb-false _ _ (head .0 .1 .0);
         whole = test-same _ _ (rest .0 .1 .1 .0);
         says-length = test-same _ _ (head .0 .1 .1 .0);
         says-number = test-same _ _ (head .0 .1 .1 .1 .0);
@@ -83,11 +82,11 @@ accepted-follows s vs e =
 
 -- ---- it follows, so it is accepted
 
-total-enough : (template : Template) → 21 ≤ total template
-total-enough noTemplate = omega arith
-total-enough Calendar = omega arith
-total-enough Offset = omega arith
-total-enough CalendarAndOffset = omega arith
+total-between : (template : Template) → (21 ≤ total template) × (total template ≤ 26)
+total-between noTemplate = (omega arith, omega arith)
+total-between Calendar = (omega arith, omega arith)
+total-between Offset = (omega arith, omega arith)
+total-between CalendarAndOffset = (omega arith, omega arith)
 
 total-not-22 : (template : Template) → total template ≡ 22 → ⊥
 total-not-22 noTemplate e = eqb-false 21 22 refl e
@@ -106,10 +105,11 @@ pub follows-accepted : (template : Template) (s : List ℕ) → Follows₁ templ
 unfolding outcome₁ asTemplate NoneHold AllAllowed placed fields₁ origin time statusAndType
 follows-accepted template s f =
     let l = f .whole in
-    let long : 21 ≤ length s = omega (arith, total-enough template) in
+    let between = total-between template in
+    let long : 21 ≤ length s = omega (arith, between .0) in
     let head = none-last 1 (headReasons 1 s) (firstOf 1 (lengthReasons s) (byTemplate s)) (
       le-ltb (length s) 5 (omega arith),
-      (le-ltb _ _ (f .small), (same-test _ _ (f .says-length), (same-test _ _ (f .says-number), tt))),
+      (le-ltb 65536 (length s) (omega (arith, between .1)), (same-test _ _ (f .says-length), (same-test _ _ (f .says-number), tt))),
     ) in
     let lengths = none-last 1 (lengthReasons s) (byTemplate s) (
       le-ltb _ _ long,

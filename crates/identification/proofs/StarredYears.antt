@@ -1,10 +1,14 @@
 -- Document 01's starred years hold of the definitions.
 -- Assumes nothing.
 use mathlib.Core.Path.{refl}
-use Rattle.octets.specs.Octets.{signOf}
+use Rattle.octets.specs.Octets.{part, be, beAt, digits, signOf}
+use Rattle.layout.specs.Fields.{between, placed, valuesOf, lowestBad}
+use Rattle.layout.specs.Outcomes.{firstOf}
 use Rattle.layout.specs.Examples.{AllAgree}
+use Rattle.layout.specs.Time.{time}
+use Rattle.identification.specs.Section1.{origin, statusAndType, fields₁, realYearAt, values₁, asTemplate, byNumber, byTemplate, outcome₁}
 use Rattle.identification.specs.Examples.{starredYears}
 
 pub years-agree : AllAgree starredYears
-unfolding AllAgree signOf
+unfolding AllAgree part be beAt digits signOf between placed valuesOf lowestBad firstOf time origin statusAndType fields₁ realYearAt values₁ asTemplate byNumber byTemplate outcome₁
 years-agree = (refl, (refl, (refl, tt)))

@@ -24,7 +24,6 @@ OffsetPresent Offset s = beAt s 24 2 ≡ 0xffff → ⊥
 OffsetPresent CalendarAndOffset s = beAt s 25 2 ≡ 0xffff → ⊥
 
 pub record Follows₁ (template : Template) (s : List ℕ) : Type 0 where
-  pub small : length s ≤ 65536
   pub whole : length s ≡ total template
   pub says-length : beAt s 1 4 ≡ length s
   pub says-number : beAt s 5 1 ≡ 1

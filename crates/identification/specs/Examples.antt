@@ -1,14 +1,38 @@
--- Document 01's starred years: a year, its offset, and the real year that they say.
+-- Document 01's starred years: a year, its offset, and the real year that is read of whole sections with them.
 -- Assumes nothing.
 use Prim.Native.Nat.{ℕ}
-use mathlib.Core.List.{List, [], _∷_}
+use mathlib.Core.List.{List, [], _∷_, _++_}
+use lib.ListN.{replicate}
 use lib.IntN.{ℤ, pos, negℤ}
-use Rattle.octets.specs.Octets.{signOf, realYear}
+use Rattle.octets.specs.Octets.{digits}
+use Rattle.layout.specs.Outcomes.{Outcome, refused, read}
 use Rattle.layout.specs.Examples.{Example}
+use Rattle.identification.specs.Section1.{outcome₁, realYearOf}
 
+-- octets 1 to 23: of so many octets, with a year, 1 January, a template number, and all else 0
+abbrev pub exampleFront : ℕ → ℕ → ℕ → List ℕ
+exampleFront octets year template =
+    digits 4 octets ++ (1 ∷ (replicate 7 0 ++ (digits 2 year ++ (1 ∷ 1 ∷ (replicate 5 0 ++ digits 2 template)))))
+
+-- 1.1 has the offset at 24-25, and 1.2 the calendar at 24 and the offset at 25-26
+abbrev pub example11 : ℕ → ℕ → List ℕ
+example11 year offset = exampleFront 25 year 1 ++ digits 2 offset
+
+abbrev pub example12 : ℕ → ℕ → List ℕ
+example12 year offset = exampleFront 26 year 2 ++ (0 ∷ digits 2 offset)
+
+-- the real year of a section that is read
+abbrev pub realYearRead : Outcome → List ℤ
+realYearRead (refused number section place) = []
+realYearRead (read values) = realYearOf values ∷ []
+
+-- it is the same of both
 abbrev pub realYearIs : ℕ → ℕ → ℤ → Example
 realYearIs year offset real =
-    record { made = realYear (signOf 2 year) (signOf 2 offset) ∷ []; stated = real ∷ [] }
+    record {
+      made = realYearRead (outcome₁ (example11 year offset)) ++ realYearRead (outcome₁ (example12 year offset));
+      stated = real ∷ real ∷ [];
+    }
 
 abbrev pub starredYears : List Example
 starredYears =

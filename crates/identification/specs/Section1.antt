@@ -3,11 +3,11 @@
 use Prim.Native.Nat.{ℕ, zero, suc}
 use mathlib.Core.List.{List, [], _∷_, _++_}
 use mathlib.Core.Bool.{not, cond}
-use lib.ListN.{length}
+use lib.ListN.{length, getD}
 use lib.Dec.{ltb, eqb}
 use lib.IntN.{ℤ, pos}
 use Rattle.octets.specs.Octets.{beAt, signOf, realYear}
-use Rattle.layout.specs.Fields.{Value, none, is, plain, Meaning, unsigned, signed, Field, held, notOnes, raw, signedPresent, lacking, after, badPlace, valuesOf}
+use Rattle.layout.specs.Fields.{Value, none, is, plain, wholeIn, naturalIn, Meaning, unsigned, signed, Field, held, notOnes, raw, signedPresent, lacking, after, badPlace, valuesOf}
 use Rattle.layout.specs.Outcomes.{Outcome, refused, read, refusedBy, Reason, reason, badField, firstOf, headReasons}
 use Rattle.layout.specs.Time.{time, timeIn}
 use Rattle.layout.specs.declared.Refusal.{Refusal}
@@ -69,6 +69,34 @@ realYearAt CalendarAndOffset s = realYear (signOf 2 (beAt s 13 2)) (signOf 2 (be
 
 unfoldable pub values₁ : Template → List ℕ → List Value
 values₁ template s = valuesOf (after 0 (fields₁ template)) s ++ (is (realYearAt template s) ∷ [])
+
+-- ---- which of the values is which, counted from 0: the first seven are of octets 1 to 12, and then comes the year
+
+abbrev pub valueAt : List Value → ℕ → Value
+valueAt one k = getD one k none
+
+abbrev pub monthOf : List Value → ℕ
+monthOf one = naturalIn (valueAt one 8)
+
+abbrev pub dayOf : List Value → ℕ
+dayOf one = naturalIn (valueAt one 9)
+
+abbrev pub hourOf : List Value → ℕ
+hourOf one = naturalIn (valueAt one 10)
+
+abbrev pub minuteOf : List Value → ℕ
+minuteOf one = naturalIn (valueAt one 11)
+
+abbrev pub secondOf : List Value → ℕ
+secondOf one = naturalIn (valueAt one 12)
+
+-- behind status, type of data and template number
+abbrev pub calendarOf : List Value → Value
+calendarOf one = valueAt one 16
+
+-- behind the offset, the last
+abbrev pub realYearOf : List Value → ℤ
+realYearOf one = wholeIn (valueAt one 18)
 
 -- ---- the outcome
 

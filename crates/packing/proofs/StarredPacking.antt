@@ -1,10 +1,16 @@
 -- Document 01's starred examples of sections 5 and 7 hold of the definitions.
 -- Assumes nothing.
 use mathlib.Core.Path.{refl}
+use Rattle.octets.specs.Octets.{part, be, beAt, digits, signOf}
+use Rattle.layout.specs.Fields.{between, placed, valuesOf, lowestBad}
+use Rattle.layout.specs.Outcomes.{firstOf, andThen}
 use Rattle.layout.specs.Examples.{AllAgree}
 use Rattle.packing.specs.Packed.{bitAt, bitsFrom, packedAt, packedFrom, unpacked}
+use Rattle.packing.specs.Section5.{fields₅, asSimple, outcome₅}
+use Rattle.packing.specs.Section7.{fields₇, outcome₇}
+use Rattle.packing.specs.Unpacking.{unpackOutcome, rowAfter}
 use Rattle.packing.specs.Examples.{starredPacking}
 
 pub packing-agrees : AllAgree starredPacking
-unfolding AllAgree unpacked packedFrom packedAt bitsFrom bitAt
-packing-agrees = (refl, (refl, tt))
+unfolding AllAgree part be beAt digits signOf between placed valuesOf lowestBad firstOf andThen unpacked packedFrom packedAt bitsFrom bitAt fields₅ asSimple outcome₅ fields₇ outcome₇ unpackOutcome rowAfter
+packing-agrees = (refl, (refl, (refl, (refl, (refl, tt)))))

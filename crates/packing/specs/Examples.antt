@@ -1,15 +1,40 @@
--- Document 01's starred examples of sections 5 and 7.
+-- Document 01's starred examples of sections 5 and 7: what is answered of whole sections.
 -- Assumes nothing.
-use Prim.Native.Nat.{_+_}
-use mathlib.Core.List.{List, [], _∷_, map}
-use lib.IntN.{pos}
+use Prim.Native.Nat.{ℕ, _-_}
+use mathlib.Core.List.{List, [], _∷_, _++_, map}
+use lib.ListN.{replicate}
+use lib.IntN.{ℤ, pos}
+use Rattle.octets.specs.Octets.{digits}
+use Rattle.layout.specs.Fields.{wholeIn}
+use Rattle.layout.specs.Outcomes.{Outcome, refused, read}
 use Rattle.layout.specs.Examples.{Example}
-use Rattle.packing.specs.Packed.{unpacked}
-use Rattle.packing.specs.Section7.{packedOctets}
+use Rattle.packing.specs.Section7.{outcome₇}
+use Rattle.packing.specs.Unpacking.{unpackOutcome, rowAfter}
 
--- N = 14, 9 bits: section 7 has 21 octets; octets 0C 44, 3 values of 5 bits: 1, 17, 2
+-- a refusal's number, section and place, or 0 and the values that are read
+abbrev pub answered : Outcome → List ℤ
+answered (refused number section place) = pos number ∷ pos section ∷ pos place ∷ []
+answered (read values) = pos 0 ∷ map wholeIn values
+
+-- N = 14, 9 bits: a section 7 of 21 octets is read, with its length and number; one of 20 or 22 is refused with 15
+abbrev pub section7 : ℕ → List ℕ
+section7 octets = digits 4 octets ++ (7 ∷ replicate (octets - 5) 0)
+
+abbrev pub fourteen : ℕ → List ℤ → Example
+fourteen octets stated = record { made = answered (outcome₇ 14 9 (section7 octets)); stated = stated }
+
+-- octets 0C 44, 3 values of 5 bits: a row of 3 places is written with 1, 17, 2
+abbrev pub three5 : List ℕ
+three5 = digits 4 21 ++ (5 ∷ (digits 4 3 ++ (replicate 10 0 ++ (5 ∷ 0 ∷ []))))
+
+abbrev pub three7 : List ℕ
+three7 = digits 4 7 ++ (7 ∷ 0x0c ∷ 0x44 ∷ [])
+
 abbrev pub starredPacking : List Example
 starredPacking =
-    record { made = pos (5 + packedOctets 14 9) ∷ []; stated = pos 21 ∷ [] }
-    ∷ record { made = map pos (unpacked 5 3 (0x0c ∷ 0x44 ∷ [])); stated = pos 1 ∷ pos 17 ∷ pos 2 ∷ [] }
+    fourteen 21 (pos 0 ∷ pos 21 ∷ pos 7 ∷ [])
+    ∷ fourteen 20 (pos 15 ∷ pos 7 ∷ pos 0 ∷ [])
+    ∷ fourteen 22 (pos 15 ∷ pos 7 ∷ pos 0 ∷ [])
+    ∷ record { made = answered (unpackOutcome three5 three7 (replicate 3 0)); stated = pos 0 ∷ pos 3 ∷ [] }
+    ∷ record { made = map pos (rowAfter three5 three7 (replicate 3 0)); stated = pos 1 ∷ pos 17 ∷ pos 2 ∷ [] }
     ∷ []
