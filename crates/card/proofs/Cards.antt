@@ -5,7 +5,8 @@ use mathlib.Core.List.{List, [], _∷_, map, nil≢cons, cons≢nil}
 use Prim.Native.Nat.{ℕ}
 use lib.IntN.{pos}
 use Rattle.card.specs.declared.Card.{Card}
-use Rattle.card.specs.Key.{keyOf, lessCard, greaterCard}
+use Rattle.card.specs.Order.{maxOf}
+use Rattle.card.specs.Key.{keyOf, lessCard}
 use Rattle.card.proofs.Strict.{Strict, Join, pulled, max-join}
 use Rattle.card.proofs.Lex.{lex-strict, Z-strict}
 
@@ -41,6 +42,10 @@ key-apart a b e =
 pub card-strict : Strict lessCard
 unfolding lessCard
 card-strict = pulled keyOf key-apart (lex-strict Z-strict)
+
+-- the greater of two cards; where neither is greater they are one card
+unfoldable pub greaterCard : Card → Card → Card
+greaterCard = maxOf lessCard
 
 pub greater-join : Join greaterCard
 unfolding greaterCard

@@ -12,7 +12,8 @@ use borrow.Author.Tests.{ltb-false, ne-eqb}
 use Rattle.card.specs.declared.Card.{Card}
 use Rattle.shelf.specs.Shelves.{slotAt, joinShelf}
 use Rattle.shelf.specs.declared.Shelf.{Shelf}
-use Rattle.shelf.specs.History.{Keeps, Tidy, fileAll, History as Cards, start as noCards, put, join as joinCards, shelfOf as shelfOfCards, acceptedAt as acceptedCards}
+use Rattle.shelf.specs.History.{Keeps, Tidy}
+use Rattle.shelf.proofs.CardHistory.{CardHistory as Cards, start as noCards, put, join as joinCards, shelfOf as shelfOfCards, acceptedAt as acceptedCards, fileAll}
 use Rattle.shelf.proofs.Histories.{tidy as tidy-cards, kept as kept-cards, same-shelf as same-cards}
 use Rattle.filing.specs.Filing.{Filing, refusedFiling, accepted, filingOf, filedBy, filedOf}
 use Rattle.filing.specs.declared.Issue.{Issue}

@@ -5,7 +5,7 @@ use mathlib.Core.List.{List, [], _∷_, _++_}
 use Prim.Native.Nat.{ℕ}
 use Rattle.card.specs.declared.Card.{Card}
 use Rattle.shelf.specs.declared.Shelf.{Shelf}
-use Rattle.shelf.specs.History.{fileAll}
+use Rattle.shelf.proofs.CardHistory.{fileAll}
 use Rattle.filing.specs.Filing.{Filing, refusedFiling, accepted, filedBy}
 use Rattle.queue.specs.Queues.{Sent, recordFiling, recordFiled, oneMore, recordsFiled}
 use Rattle.queue.specs.declared.Progress.{Progress}

@@ -12,16 +12,17 @@ use lib.Seq.{ext-getD}
 use borrow.Author.Tests.{eqb-true, eqb-false}
 use Rattle.card.specs.declared.Card.{Card}
 use Rattle.card.specs.Order.{maxOf}
-use Rattle.card.specs.Key.{lessCard, greaterCard}
+use Rattle.card.specs.Key.{lessCard}
 use Rattle.card.proofs.Strict.{not-trans, max-least-left, max-least-right, max-left, max-right}
-use Rattle.card.proofs.Cards.{card-strict}
+use Rattle.card.proofs.Cards.{card-strict, greaterCard}
 use Rattle.shelf.specs.declared.Slot.{Slot}
 use Rattle.shelf.specs.Shelves.{greaterSlot, blank, holding, slotAt, putShelf}
-use Rattle.shelf.specs.History.{History, start, put, join, shelfOf, acceptedAt, Keeps, nothing, greatest, Tidy}
+use Rattle.shelf.specs.History.{Keeps, nothing, greatest, Tidy}
+use Rattle.shelf.proofs.CardHistory.{CardHistory, start, put, join, shelfOf, acceptedAt}
 use Rattle.shelf.proofs.Slots.{slot-join, blank-greater, held-greater}
 use Rattle.shelf.proofs.Laws.{shelf, tidy-empty, tidy-put, tidy-join, put-same, put-other, join-at}
 
-pub tidy : (h : History) → Tidy (shelfOf h)
+pub tidy : (h : CardHistory) → Tidy (shelfOf h)
 unfolding shelfOf
 tidy start = tidy-empty
 tidy (put n c h) = tidy-put (shelfOf h) n c (tidy h)
@@ -63,7 +64,7 @@ keeps-both {l} {m} (greatest c i b) (greatest d j e) =
     (λ x k. ⊎-elim (λ z. above-left c d x (b x z)) (λ z. above-right c d x (e x z)) (List·Memᴰ·append-cases l k)))
 
 -- Each slot holds the greatest card that was ever accepted for it, or is empty if none was.
-pub kept : (h : History) (n : ℕ) → n < 64 → Keeps (acceptedAt n h) (slotAt (shelfOf h) n)
+pub kept : (h : CardHistory) (n : ℕ) → n < 64 → Keeps (acceptedAt n h) (slotAt (shelfOf h) n)
 unfolding shelfOf acceptedAt
 kept start n l = subst⁻¹ (Keeps []) (getD-replicate 64 n blank blank l) (nothing refl)
 kept (put m c h) n l = go (eqb m n) refl (kept h n l)
@@ -83,7 +84,7 @@ keeps-same f g (greatest c i b) (nothing e) = absurd (List·Memᴰ·not-nil (sub
 keeps-same f g (greatest c i b) (greatest d j e) = ap holding (card-strict .total c d (b d (g d j)) (e c (f c i)))
 
 -- So filing and joining may be done in any order, in any grouping and with repeats.
-pub same-shelf : (g h : History) → ((n : ℕ) → n < 64 → (c : Card) → List·Memᴰ c (acceptedAt n g) → List·Memᴰ c (acceptedAt n h))
+pub same-shelf : (g h : CardHistory) → ((n : ℕ) → n < 64 → (c : Card) → List·Memᴰ c (acceptedAt n g) → List·Memᴰ c (acceptedAt n h))
     → ((n : ℕ) → n < 64 → (c : Card) → List·Memᴰ c (acceptedAt n h) → List·Memᴰ c (acceptedAt n g)) → shelfOf g ≡ shelfOf h
 same-shelf g h there back =
     ap shelf

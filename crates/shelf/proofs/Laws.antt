@@ -16,7 +16,8 @@ use Rattle.card.proofs.Strict.{Join, max-left, max-right}
 use Rattle.shelf.specs.declared.Slot.{Slot}
 use Rattle.shelf.specs.declared.Shelf.{Shelf}
 use Rattle.shelf.specs.Shelves.{lessSlot, greaterSlot, blank, holding, slotAt, emptyShelf, putShelf, putOf, joinShelf}
-use Rattle.shelf.specs.History.{Tidy, fileAll}
+use Rattle.shelf.specs.History.{Tidy}
+use Rattle.shelf.proofs.CardHistory.{fileAll}
 use Rattle.shelf.proofs.Pointwise.{zip-join, zip-length, zip-at, zip-least, zip-set}
 use Rattle.shelf.proofs.Slots.{slot-strict, slot-join, greater-blank, blank-greater, one-of}
 

@@ -6,10 +6,10 @@ use native.Mathlib.Omega.{arith}
 use Prim.Native.Nat.{ℕ}
 use Rattle.card.specs.declared.Card.{Card}
 use Rattle.card.specs.Order.{lex, maxOf}
-use Rattle.card.specs.Key.{lessCard, greaterCard}
+use Rattle.card.specs.Key.{lessCard}
 use Rattle.card.proofs.Strict.{Strict, Join, pulled, max-join, max-left, max-right}
 use Rattle.card.proofs.Lex.{lex-strict, lex-same, Z-strict}
-use Rattle.card.proofs.Cards.{key-apart, card-strict}
+use Rattle.card.proofs.Cards.{key-apart, card-strict, greaterCard}
 use Rattle.shelf.specs.declared.Slot.{Slot}
 use Rattle.shelf.specs.Shelves.{heldKey, slotKey, lessSlot, greaterSlot, blank, holding}
 
