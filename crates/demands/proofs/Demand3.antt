@@ -1,6 +1,7 @@
 -- Demand 3. The definitions in it: a card and the order of cards (`card/specs/Key.antt`), a shelf and joining two
 -- (`shelf/specs/Shelves.antt`), what a slot must hold (`Keeps`, `shelf/specs/History.antt`), filing a field (`filing/specs/Filing.antt`) and
--- a queue (`queue/specs/Queues.antt`), and how a shelf came about (`queue/specs/History.antt`). Of the entries for C: what they leave
+-- a queue (`queue/specs/Queues.antt`), what the counts are (`Said` there, `queue/specs/Counting.antt`), and how a shelf came about
+-- (`queue/specs/History.antt`). Of the entries for C: what they leave
 -- (`skogmund/specs/Shelves.antt`), and the octets of a history's shelf (`Leaves`, `demands/specs/Histories.antt`).
 -- Assumes nothing.
 
@@ -10,7 +11,7 @@ pub use Rattle.demands.proofs.ShelvesAsOctets.{history-read-back, octet
 pub use Rattle.demands.proofs.ShelvesForC.{c-empties, c-joins, c-files, c-files-queue, c-shows}
 -- The rest are the theorems of this file.
 use Prim.Native.Nat.{ℕ, _<_}
-use mathlib.Core.Path.{_≡_, refl, ap, _∙_}
+use mathlib.Core.Path.{_≡_, refl, sym, ap, subst, _∙_}
 use mathlib.Core.Bool.{Bool, false, cond}
 use mathlib.Core.List.{List, [], _∷_, _++_, List·Memᴰ, append-nil}
 use lib.Dec.{eqb}
@@ -25,16 +26,22 @@ use Rattle.shelf.specs.Shelves.{emptyShelf, slotAt, joinShelf}
 use Rattle.shelf.specs.History.{Keeps}
 use Rattle.shelf.specs.declared.Shelf.{Shelf}
 use Rattle.shelf.proofs.Laws.{shelf-join}
-use Rattle.filing.specs.Filing.{Filing, refusedFiling, cardOf, foreignCalendar, filingOf, filedBy, filedOf}
-use Rattle.filing.proofs.CardOctets.{cardAt, foreignAt, card-octets}
+use Rattle.filing.specs.Filing.{Filing, refusedFiling, cardOf, cardAt, foreignCalendar, foreignAt, filingOf, filedBy, filedOf, Said}
+use Rattle.filing.proofs.CardOctets.{card-octets}
+use Rattle.filing.proofs.SaidOfTheSlots.{said}
 use Rattle.filing.specs.declared.Filed.{Filed}
 use Rattle.queue.specs.Queues.{Sent, between, bodyFiling, recordFiling, recordFiled, recordsFiled, fromStart, cutOf, queueRefusal, refusedQueue, acceptedQueue, queueFiled}
+use Rattle.queue.specs.Counting.{Reports}
 use Rattle.queue.specs.Bodies.{bodyOf}
 use Rattle.queue.specs.declared.Body.{Body}
 use Rattle.queue.specs.declared.Body.the-variants.{Five, NotFive}
+use Rattle.queue.specs.declared.Counts.{Counts}
+use Rattle.queue.specs.declared.QueueAnswer.{QueueAnswer}
+use Rattle.queue.specs.declared.QueueAnswer.the-variants.{Filed as filedAll}
 use Rattle.queue.specs.declared.QueueFiled.{QueueFiled}
 use Rattle.queue.specs.History.{Field, History, start, file, queue, join, shelfOf, acceptedAt, acceptedIn, acceptedOf}
 use Rattle.queue.proofs.Histories.{kept, same-shelf}
+use Rattle.queue.proofs.Counting.{queue-counts}
 use Rattle.queue.proofs.QueueIsJoin.{queue-joins}
 use Rattle.queue.proofs.RecordsAsCards.{as-if-never-sent}
 
@@ -56,19 +63,30 @@ pub made-by-joining : (g h : History) (r : Shelf) → r ≡ joinShelf (shelfOf g
 unfolding shelfOf
 made-by-joining g h r e = e
 
--- a record that is filed by itself: its five sections are a field, or it is refused with 20
-pub made-by-record : (h : History) (x : Sent) (r : Filed) → r ≡ recordFiled (shelfOf h) x → (g : History) × (r .shelf ≡ shelfOf g)
-unfolding shelfOf recordFiled recordFiling bodyFiling filedOf filedBy
+-- a record that is filed by itself: its five sections are a field, with which the history goes on, or it is refused with 20
+pub made-by-record : (h : History) (x : Sent) (r : Filed) → r ≡ recordFiled (shelfOf h) x
+    → (g : History) × (r .shelf ≡ shelfOf g) × ((n : ℕ) → acceptedAt n g ≡ acceptedAt n h ++ acceptedOf n (x .slot) (recordFiling x))
+unfolding shelfOf acceptedAt acceptedOf recordFiled recordFiling bodyFiling filedOf filedBy
 made-by-record h x r e = by-body (bodyOf (x .body)) refl
   where
-    by-body : (b : Body) → bodyOf (x .body) ≡ b → (g : History) × (r .shelf ≡ shelfOf g)
-    by-body NotFive f = (h, ap (λ (y : Filed). y .shelf) e ∙ ap (λ (b : Body). filedBy (shelfOf h) (x .slot) (bodyFiling (x .slot) (x .issue) (x .body) b) .shelf) f)
+    filing-by : Body → Filing
+    filing-by b = bodyFiling (x .slot) (x .issue) (x .body) b
+
+    shelf-by : (b : Body) → bodyOf (x .body) ≡ b → r .shelf ≡ filedBy (shelfOf h) (x .slot) (filing-by b) .shelf
+    shelf-by b f = ap (λ (y : Filed). y .shelf) e ∙ ap (λ (b : Body). filedBy (shelfOf h) (x .slot) (filing-by b) .shelf) f
+
+    accepted-by : (b : Body) → bodyOf (x .body) ≡ b → (n : ℕ) → acceptedAt n h ++ acceptedOf n (x .slot) (filing-by b) ≡ acceptedAt n h ++ acceptedOf n (x .slot) (recordFiling x)
+    accepted-by b f n = ap (λ (b : Body). acceptedAt n h ++ acceptedOf n (x .slot) (filing-by b)) (sym f)
+
+    by-body : (b : Body) → bodyOf (x .body) ≡ b → (g : History) × (r .shelf ≡ shelfOf g) × ((n : ℕ) → acceptedAt n g ≡ acceptedAt n h ++ acceptedOf n (x .slot) (recordFiling x))
+    by-body NotFive f = (h, shelf-by NotFive f, λ n. sym (append-nil (acceptedAt n h)) ∙ accepted-by NotFive f n)
     by-body (Five ends) f =
         let s = x .body in (
           file (x .slot)
               (record { issue = x .issue; s1 = between s 0 (ends .one); s3 = between s (ends .one) (ends .three); s4 = between s (ends .three) (ends .four); s5 = between s (ends .four) (ends .five); s7 = between s (ends .five) (length s) })
               h,
-          ap (λ (y : Filed). y .shelf) e ∙ ap (λ (b : Body). filedBy (shelfOf h) (x .slot) (bodyFiling (x .slot) (x .issue) s b) .shelf) f,
+          shelf-by (Five ends) f,
+          accepted-by (Five ends) f,
         )
 
 -- ---- a card: the real reference time, the issue and octets 8-34 of section 4, by octet numbers; 17 looks at octet 24
@@ -104,6 +122,24 @@ join-idempotent = shelf-join .idem
 pub queue-is-joining : (q : List ℕ) (h : History) → shelfOf (queue q h) ≡ joinShelf (shelfOf h) (shelfOf (queue q start))
 unfolding shelfOf
 queue-is-joining = queue-joins
+
+-- ---- "Filing a queue reports kept (the slot changed), passed (it did not) and refused; the three sum to the records": the counts are defined by
+-- the slots before and after each record. Every shelf has 64 slots
+
+said-by : (s : Shelf) (slot : ℕ) (f : Filing) (r : Filed) → length (s .slots) ≡ 64 → r ≡ filedBy s slot f → Said s slot (r .shelf) (r .answer)
+said-by s slot f r long e = subst (λ (y : Filed). Said s slot (y .shelf) (y .answer)) (sym e) (said s slot f long)
+
+pub filing-says : (s : Shelf) (slot : ℕ) (x : Field) (r : Filed) → length (s .slots) ≡ 64 → r ≡ filedOf s slot (x .issue) (x .s1) (x .s3) (x .s4) (x .s5) (x .s7) → Said s slot (r .shelf) (r .answer)
+unfolding filedOf
+filing-says s slot x = said-by s slot (filingOf slot (x .issue) (x .s1) (x .s3) (x .s4) (x .s5) (x .s7))
+
+pub record-says : (s : Shelf) (x : Sent) (r : Filed) → length (s .slots) ≡ 64 → r ≡ recordFiled s x → Said s (x .slot) (r .shelf) (r .answer)
+unfolding recordFiled
+record-says s x = said-by s (x .slot) (recordFiling x)
+
+pub queue-reports : (s : Shelf) (q : List ℕ) (r : QueueFiled) (n : Counts) → r ≡ queueFiled s q → r .answer ≡ filedAll n → Reports s (cutOf q .records) n
+queue-reports s q r n e f =
+    queue-counts q s (record { shelf = r .shelf; counts = n }) (sym e ∙ ap (λ (a : QueueAnswer). record { shelf = r .shelf; answer = a }) f)
 
 -- ---- a refused field, record or queue counts as never sent
 

@@ -1,43 +1,17 @@
--- The card of an accepted section 1 and a section 4, by octet numbers: the real reference time stands in octets 13-19 with the offset, and
--- 17 looks at octet 24.
+-- The card of an accepted section 1 and a section 4 is what `cardAt` has by octet numbers, and 17 looks at octet 24.
 -- Assumes nothing.
 use Prim.Native.Nat.{ℕ}
 use mathlib.Core.Path.{_≡_, refl, ap, _∙_}
-use mathlib.Core.Bool.{Bool, false, not}
 use mathlib.Core.List.{List}
-use lib.Dec.{eqb}
-use Rattle.octets.specs.Octets.{beAt, part}
 use Rattle.layout.specs.Fields.{Value, placed, valuesOf}
 use Rattle.layout.specs.Outcomes.{read}
 use Rattle.layout.specs.Time.{time}
-use Rattle.identification.specs.Section1.{outcome₁, realYearAt, values₁, fields₁, origin, statusAndType}
+use Rattle.identification.specs.Section1.{outcome₁, values₁, fields₁, origin, statusAndType}
 use Rattle.identification.specs.Accepted.{Follows₁}
 use Rattle.identification.specs.declared.Template.{Template}
 use Rattle.identification.specs.declared.Template.the-variants.{None as noTemplate, Calendar, Offset, CalendarAndOffset}
 use Rattle.identification.proofs.AcceptedExactlyWhen.{accepted-follows}
-use Rattle.card.specs.declared.Card.{Card}
-use Rattle.filing.specs.Filing.{cardOf, foreignCalendar}
-
--- the card, octet by octet
-abbrev pub cardAt : Template → List ℕ → ℕ → List ℕ → Card
-cardAt template s1 issue s4 =
-    record {
-      year = realYearAt template s1;
-      month = beAt s1 15 1;
-      day = beAt s1 16 1;
-      hour = beAt s1 17 1;
-      minute = beAt s1 18 1;
-      second = beAt s1 19 1;
-      issue = issue;
-      product = part s4 8 27;
-    }
-
--- the calendar is present and not 0
-abbrev pub foreignAt : Template → List ℕ → Bool
-foreignAt noTemplate s1 = false
-foreignAt Calendar s1 = not (eqb (beAt s1 24 1) 0)
-foreignAt Offset s1 = false
-foreignAt CalendarAndOffset s1 = not (eqb (beAt s1 24 1) 0)
+use Rattle.filing.specs.Filing.{cardOf, cardAt, foreignCalendar, foreignAt}
 
 card-of-values : (template : Template) (s1 : List ℕ) (issue : ℕ) (s4 : List ℕ) → cardOf (values₁ template s1) issue s4 ≡ cardAt template s1 issue s4
 unfolding cardOf values₁ valuesOf placed fields₁ origin time statusAndType

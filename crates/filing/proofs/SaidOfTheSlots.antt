@@ -1,27 +1,18 @@
--- Kept is that the slot changed, passed that it did not, and a refusal changes no shelf; whatever shelf of 64 slots is lent.
+-- What is answered is said of the slots before and after, whatever shelf of 64 slots is lent.
 -- Assumes nothing.
 use Prim.Native.Nat.{ℕ}
 use mathlib.Core.Path.{_≡_, refl}
 use mathlib.Core.Bool.{Bool, true, false}
-use mathlib.Core.Logic.{_≢_}
 use lib.ListN.{length}
 use Rattle.card.specs.declared.Card.{Card}
 use Rattle.shelf.specs.declared.Shelf.{Shelf}
-use Rattle.shelf.specs.Shelves.{slotAt, putShelf, putOf}
-use Rattle.shelf.proofs.Laws.{unchanged-same, changed-differs}
-use Rattle.filing.specs.Filing.{Filing, refusedFiling, accepted, filedBy, keptIf}
-use Rattle.filing.specs.declared.Answer.{Answer}
-use Rattle.filing.specs.declared.Answer.the-variants.{Kept, Passed, Refused}
-
--- what an answer says of the shelf before and after, for the slot asked for
-abbrev pub Said : Shelf → ℕ → Shelf → Answer → Type 0
-Said before slot after Kept = slotAt after slot ≢ slotAt before slot
-Said before slot after Passed = after ≡ before
-Said before slot after (Refused x) = after ≡ before
+use Rattle.shelf.specs.Shelves.{putShelf, putOf}
+use Rattle.shelf.proofs.Laws.{put-other, unchanged-same, changed-differs}
+use Rattle.filing.specs.Filing.{Filing, refusedFiling, accepted, filedBy, keptIf, Said}
 
 put-said : (s : Shelf) (slot : ℕ) (c : Card) → length (s .slots) ≡ 64 → (changed : Bool) → putOf s slot c .changed ≡ changed →
     Said s slot (putShelf s slot c) (keptIf changed)
-put-said s slot c long true e = changed-differs s slot c long e
+put-said s slot c long true e = (changed-differs s slot c long e, λ k d. put-other s slot k c d)
 put-said s slot c long false e = unchanged-same s slot c long e
 
 pub said : (s : Shelf) (slot : ℕ) (f : Filing) → length (s .slots) ≡ 64 → Said s slot (filedBy s slot f .shelf) (filedBy s slot f .answer)

@@ -1,16 +1,19 @@
 -- Filing a field to a slot: 16, then the field's refusals, then 17; otherwise the slot keeps the greater card.
 -- Assumes nothing.
 use Prim.Native.Nat.{ℕ}
+use mathlib.Core.Path.{_≡_}
+use mathlib.Core.Logic.{_≢_}
 use mathlib.Core.List.{List}
 use mathlib.Core.Bool.{Bool, true, false, not, cond}
-use lib.ListN.{getD}
 use lib.Dec.{ltb, eqb}
-use lib.IntN.{natAbs}
-use Rattle.octets.specs.Octets.{part}
-use Rattle.layout.specs.Fields.{Value, none, missing, is, which, wholeIn, naturalIn}
+use Rattle.octets.specs.Octets.{beAt, part}
+use Rattle.layout.specs.Fields.{Value, naturalIn}
+use Rattle.identification.specs.Section1.{realYearAt, realYearOf, monthOf, dayOf, hourOf, minuteOf, secondOf, calendarOf}
+use Rattle.identification.specs.declared.Template.{Template}
+use Rattle.identification.specs.declared.Template.the-variants.{None as noTemplate, Calendar, Offset, CalendarAndOffset}
 use Rattle.field.specs.Field.{FieldOutcome, refusedField, readField, fieldOutcome}
 use Rattle.card.specs.declared.Card.{Card}
-use Rattle.shelf.specs.Shelves.{putOf}
+use Rattle.shelf.specs.Shelves.{slotAt, putOf}
 use Rattle.shelf.specs.declared.Shelf.{Shelf}
 use Rattle.shelf.specs.declared.PutDone.{PutDone}
 use Rattle.filing.specs.declared.Issue.{Issue}
@@ -29,35 +32,46 @@ abbrev pub issueOf : Issue → ℕ
 issueOf NotNamed = defaultIssue
 issueOf (Named n) = n
 
--- the value at index k of those of section 1, of which the real year is the last
-abbrev pub valueAt : List Value → ℕ → Value
-valueAt one k = getD one k none
-
--- the real reference time of section 1, the issue, and octets 8-34 of section 4
+-- the real reference time of section 1, by the values that are read of it, the issue, and octets 8-34 of section 4
 unfoldable pub cardOf : List Value → ℕ → List ℕ → Card
 cardOf one issue s4 =
     record {
-      year = wholeIn (valueAt one 18);
-      month = naturalIn (valueAt one 8);
-      day = naturalIn (valueAt one 9);
-      hour = naturalIn (valueAt one 10);
-      minute = naturalIn (valueAt one 11);
-      second = naturalIn (valueAt one 12);
+      year = realYearOf one;
+      month = monthOf one;
+      day = dayOf one;
+      hour = hourOf one;
+      minute = minuteOf one;
+      second = secondOf one;
+      issue = issue;
+      product = part s4 8 27;
+    }
+
+-- the same card by the octets of section 1
+abbrev pub cardAt : Template → List ℕ → ℕ → List ℕ → Card
+cardAt template s1 issue s4 =
+    record {
+      year = realYearAt template s1;
+      month = beAt s1 15 1;
+      day = beAt s1 16 1;
+      hour = beAt s1 17 1;
+      minute = beAt s1 18 1;
+      second = beAt s1 19 1;
       issue = issue;
       product = part s4 8 27;
     }
 
 -- ---- accepted or not
 
--- the calendar of section 1 is present and not 0
-abbrev pub foreign : Value → Bool
-foreign none = false
-foreign missing = false
-foreign (is z) = not (eqb (natAbs z) 0)
-foreign (which n) = false
-
+-- the calendar of section 1 is present and not 0; one that is not there says no number, which counts as 0
 abbrev pub foreignCalendar : List Value → Bool
-foreignCalendar one = foreign (valueAt one 16)
+foreignCalendar one = not (eqb (naturalIn (calendarOf one)) 0)
+
+-- the same by the octets of section 1
+abbrev pub foreignAt : Template → List ℕ → Bool
+foreignAt noTemplate s1 = false
+foreignAt Calendar s1 = not (eqb (beAt s1 24 1) 0)
+foreignAt Offset s1 = false
+foreignAt CalendarAndOffset s1 = not (eqb (beAt s1 24 1) 0)
 
 -- a refusal's number, section and place, or the card that is accepted
 pub data Filing : Type 0 where
@@ -90,3 +104,11 @@ filedBy shelf slot (accepted card) = afterPut (putOf shelf slot card)
 
 unfoldable pub filedOf : Shelf → ℕ → Issue → List ℕ → List ℕ → List ℕ → List ℕ → List ℕ → Filed
 filedOf shelf slot issue s1 s3 s4 s5 s7 = filedBy shelf slot (filingOf slot issue s1 s3 s4 s5 s7)
+
+-- ---- what an answer says of the shelf before and after: kept, that the slot changed, and no other; passed, that it did not, nor another; and a
+-- refusal changes none
+
+abbrev pub Said : Shelf → ℕ → Shelf → Answer → Type 0
+Said before slot after Kept = (slotAt after slot ≢ slotAt before slot) × ((k : ℕ) → k ≢ slot → slotAt after k ≡ slotAt before k)
+Said before slot after Passed = after ≡ before
+Said before slot after (Refused x) = after ≡ before

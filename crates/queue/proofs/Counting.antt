@@ -10,8 +10,9 @@ use Rattle.shelf.specs.declared.Shelf.{Shelf}
 use Rattle.filing.specs.Filing.{Filing, refusedFiling, accepted, filedBy}
 use Rattle.filing.specs.declared.Answer.{Answer}
 use Rattle.filing.specs.declared.Answer.the-variants.{Kept, Passed, Refused}
-use Rattle.filing.proofs.SaidOfTheSlots.{Said, said}
+use Rattle.filing.proofs.SaidOfTheSlots.{said}
 use Rattle.queue.specs.Queues.{Sent, recordFiling, recordFiled, cutOf, counted, total, oneMore, recordsFiled, fromStart, acceptedQueue, queueFiled}
+use Rattle.queue.specs.Counting.{answersOf, countedAll, AllSaid, Reports}
 use Rattle.queue.specs.declared.Counts.{Counts}
 use Rattle.queue.specs.declared.Progress.{Progress}
 use Rattle.queue.proofs.FiledQueues.{files}
@@ -32,25 +33,10 @@ sum (r ∷ rs) p =
 
 -- ---- what each record is answered, and what that says of its slot
 
--- the answers, in the queue's order
-pub answersOf : Shelf → List Sent → List Answer
-answersOf s [] = []
-answersOf s (r ∷ rs) = recordFiled s r .answer ∷ answersOf (recordFiled s r .shelf) rs
-
--- counted one after the other
-pub countedAll : Counts → List Answer → Counts
-countedAll n [] = n
-countedAll n (a ∷ rest) = countedAll (counted n a) rest
-
 pub counts-are : (rs : List Sent) (p : Progress) → recordsFiled p rs .counts ≡ countedAll (p .counts) (answersOf (p .shelf) rs)
 unfolding recordsFiled answersOf countedAll
 counts-are [] p = refl
 counts-are (r ∷ rs) p = counts-are rs (oneMore (p .counts) (recordFiled (p .shelf) r))
-
--- of each record, with the shelf before and after it: kept is that its slot changed, passed that it did not, and a refused record leaves the shelf
-pub AllSaid : Shelf → List Sent → Type 0
-AllSaid s [] = Unit {0}
-AllSaid s (r ∷ rs) = Said s (r .slot) (recordFiled s r .shelf) (recordFiled s r .answer) × AllSaid (recordFiled s r .shelf) rs
 
 stays-long : (s : Shelf) (slot : ℕ) (f : Filing) → length (s .slots) ≡ 64 → length (filedBy s slot f .shelf .slots) ≡ 64
 unfolding filedBy
@@ -62,13 +48,15 @@ unfolding AllSaid recordFiled
 all-said [] s long = tt
 all-said (r ∷ rs) s long = (said s (r .slot) (recordFiling r) long, all-said rs (recordFiled s r .shelf) (stays-long s (r .slot) (recordFiling r) long))
 
--- ---- so of a queue that is filed: its counts are those of the records' answers, they sum to the records, and each answer is as the slot was
--- before and after
+-- ---- so of a queue that is filed
 
-pub queue-counts : (q : List ℕ) (s : Shelf) (p : Progress) → queueFiled s q ≡ acceptedQueue p
-    → (p .counts ≡ countedAll (fromStart s .counts) (answersOf s (cutOf q .records))) × (total (p .counts) ≡ length (cutOf q .records)) × (length (s .slots) ≡ 64 → AllSaid s (cutOf q .records))
+pub queue-counts : (q : List ℕ) (s : Shelf) (p : Progress) → queueFiled s q ≡ acceptedQueue p → Reports s (cutOf q .records) (p .counts)
 queue-counts q s p e =
     let rs = cutOf q .records in
     let f = files q s p e in
-    let counts = ap (λ (x : Progress). x .counts) (f .records) in
-    (sym counts ∙ counts-are rs (fromStart s), sym (ap total counts) ∙ sum rs (fromStart s) ∙ zero-add (length rs), all-said rs s)
+    let same = ap (λ (x : Progress). x .counts) (f .records) in
+    record {
+      counts = sym same ∙ counts-are rs (fromStart s);
+      slots = all-said rs s;
+      sum = sym (ap total same) ∙ sum rs (fromStart s) ∙ zero-add (length rs);
+    }

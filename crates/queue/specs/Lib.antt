@@ -2,5 +2,6 @@ pub mod Numbers
 pub mod Records
 pub mod Bodies
 pub mod Queues
+pub mod Counting
 pub mod History
 pub mod Examples
