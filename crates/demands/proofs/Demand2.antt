@@ -6,17 +6,24 @@
 
 -- "What is read out is what those octets mean.", of C: it is told the record's numbers, exactly where the section is accepted and there is room.
 pub use Rattle.skogmund.proofs.RecordTold.{told-exactly-when, record-told}
+-- "follows the WMO FM 92 template layouts": the first octet of each field of each template, as the layouts have them
+pub use Rattle.identification.proofs.FieldsCoverOnce.{at-none, at-1-0, at-1-1, at-1-2}
+pub use Rattle.grid.proofs.FieldsCoverOnce.{at-3-0, at-3-1, at-3-2, at-3-3}
+pub use Rattle.product.proofs.FieldsCoverOnce.{at-4-0, at-4-1, at-4-4, at-4-5, at-4-8, at-4-9, at-4-11, at-4-14, at-4-46}
+pub use Rattle.packing.proofs.FieldsCoverOnce.{at-5, at-7}
+-- and of section 4: n, the forecast time and the total that refusals look at are those of document 01's table (`product/specs/Accepted.antt`)
+pub use Rattle.product.proofs.AcceptedExactlyWhen.{table-places, table-total}
 -- The rest are the theorems of this file.
 use Prim.Native.Nat.{ℕ, zero, suc, _+_, _*_, _<_, _≤_}
 use native.Mathlib.Omega.{arith}
 use mathlib.Core.Path.{_≡_, refl, sym, ap, subst, _∙_}
-use mathlib.Core.Bool.{Bool, cond}
+use mathlib.Core.Bool.{Bool, true, cond}
 use mathlib.Core.Logic.{_↔_}
 use mathlib.Core.List.{List, [], _∷_}
 use lib.Dec.{eqb}
 use lib.ListN.{length, getD, take, drop}
 use borrow.Author.Tests.{ne-eqb}
-use Rattle.octets.specs.Octets.{part}
+use Rattle.octets.specs.Octets.{part, beAt}
 use Rattle.octets.proofs.Laws.{part-take}
 use Rattle.layout.specs.Fields.{Value, plain, after, valuesOf, octetsOf}
 use Rattle.layout.specs.Outcomes.{Outcome, refused, read, andThen, firstOf}
@@ -33,14 +40,14 @@ use Rattle.identification.specs.declared.Template.{Template as Template₁}
 use Rattle.identification.proofs.AcceptedExactlyWhen.{accepted-exactly-when as exactly₁, accepted-follows as follows₁}
 use Rattle.identification.proofs.FieldsCoverOnce.{covered as covered₁}
 use Rattle.grid.specs.Section3 as three
-use Rattle.grid.specs.Accepted.{Follows₃}
+use Rattle.grid.specs.Accepted.{Follows₃, NoList}
 use Rattle.grid.specs.declared.Answer.{Answer as Answer₃}
 use Rattle.grid.specs.declared.Answer.the-variants.{Read as Read₃}
 use Rattle.grid.specs.declared.Grid.{Grid}
 use Rattle.grid.specs.declared.Template.{Template as Template₃}
 use Rattle.grid.proofs.AcceptedExactlyWhen.{accepted-exactly-when as exactly₃, accepted-follows as follows₃, all-fits}
 use Rattle.grid.proofs.FieldsCoverOnce.{covered as covered₃}
-use Rattle.grid.proofs.ListShown.{those-very-octets, refused-shows-none}
+use Rattle.grid.proofs.ListShown.{those-very-octets, without-a-list, points-are-its-sum, refused-shows-none}
 use Rattle.product.specs.Section4 as four
 use Rattle.product.specs.Views.{rangeOf, membersOf, coordinatesOf, strung}
 use Rattle.product.specs.Accepted.{Follows₄}
@@ -50,7 +57,7 @@ use Rattle.product.specs.declared.Product.{Product}
 use Rattle.product.specs.declared.PartKind.{PartKind}
 use Rattle.product.proofs.AcceptedExactlyWhen.{accepted-exactly-when as exactly₄, accepted-follows as follows₄, follows-total}
 use Rattle.product.proofs.FieldsCoverOnce.{covered as covered₄}
-use Rattle.product.proofs.ViewsAreTheLayouts.{views-shown, range-whole, no-range, refused-nothing}
+use Rattle.product.proofs.ViewsAreTheLayouts.{views-shown, range-whole, no-range, no-members, refused-nothing}
 use Rattle.packing.specs.Packed.{bitsFrom, packedAt, packedFrom, unpacked}
 use Rattle.packing.specs.Unpacking.{unpackOutcome, rowBy, rowAfter, toldUnpacked, Unpacks}
 use Rattle.packing.specs.declared.Unpacked.the-variants.{Written}
@@ -93,7 +100,8 @@ unfolding onward
 handed (refused number section place) next e = let z : _≡_ {A = ℕ} 0 1 = cc in absurd (omega arith)
 handed (read vs) next e = (vs, refl, e)
 
--- ---- "A section is accepted exactly when it has at most 65,536 octets, follows the WMO FM 92 template layouts and keeps the value rules"
+-- ---- "A section is accepted exactly when it has at most 65,536 octets, follows the WMO FM 92 template layouts and keeps the value rules". (Of
+-- sections 1 and 5 the totals say that they have at most 65,536.)
 
 pub section-1-accepted : (s : List ℕ) (a : Answer₁) → one.told a ≡ one.outcome₁ s → Accepted (one.told a) ↔ ((template : Template₁) × Follows₁ template s)
 section-1-accepted s a e = by-outcome e (exactly₁ s)
@@ -155,11 +163,11 @@ pub section-7-means : (n bits : ℕ) (s : List ℕ) (x : DataSection) → seven.
 unfolding seven.told₇
 section-7-means n bits s x e = accepted-follows₇ n bits s (seven.valuesIn₇ x) (sym e)
 
--- a field that is read is its sections, each read as it is alone
+-- a field that is read is its sections, each read as it is alone, and section 7 by section 5's N and bits
 pub field-means : (s1 s3 s4 s5 s7 : List ℕ) (x : WholeField) → toldField (ReadField x) ≡ fieldOutcome s1 s3 s4 s5 s7
     → (one.outcome₁ s1 ≡ read (one.valuesIn (x .identification))) × (three.outcome₃ s3 ≡ read (three.valuesIn (x .grid))) × (four.outcome₄ s4 ≡ read (four.valuesIn (x .product)))
-    × (five.outcome₅ s5 ≡ read (five.valuesIn₅ (x .packing)))
-unfolding toldField fieldOutcome packedOutcome
+    × (five.outcome₅ s5 ≡ read (five.valuesIn₅ (x .packing))) × ((vs : List Value) × (seven.outcome₇ (five.valuesAt s5) (five.bitsAt s5) s7 ≡ read vs))
+unfolding toldField fieldOutcome packedOutcome NoneHold
 field-means s1 s3 s4 s5 s7 x e =
     let a = handed (one.outcome₁ s1) _ (sym e) in
     let b = handed (three.outcome₃ s3) _ (a .2) in
@@ -167,12 +175,20 @@ field-means s1 s3 s4 s5 s7 x e =
     let d = handed (five.outcome₅ s5) _ (c .2) in
     let f = handed _ _ (d .2) in
     let same = f .2 in
-    (a .1 ∙ ap read cc, b .1 ∙ ap read cc, c .1 ∙ ap read cc, d .1 ∙ ap read cc)
+    let g = read-none 5 _ (seven.outcome₇ (five.valuesAt s5) (five.bitsAt s5) s7) _ (f .1) in
+    (a .1 ∙ ap read cc, b .1 ∙ ap read cc, c .1 ∙ ap read cc, d .1 ∙ ap read cc, (f .0, g .1))
 
 -- ---- a caller is shown those very octets of the section, and nothing of a refused one
 
 pub list-of-section-3 : (template : Template₃) (s : List ℕ) → Follows₃ template s → three.list₃ s ≡ part s (1 + three.baseEnd template) (three.listOctets s)
 list-of-section-3 = those-very-octets
+
+pub list-without-width : (template : Template₃) (s : List ℕ) → Follows₃ template s → NoList template s → three.list₃ s ≡ []
+list-without-width = without-a-list
+
+-- its numbers sum to the points
+pub list-sum : (template : Template₃) (s : List ℕ) → Follows₃ template s → three.hasList (three.listWidth s) ≡ true → beAt s 7 4 ≡ three.sumOf 0 (three.listWidth s) (three.list₃ s) (three.listCount s)
+list-sum = points-are-its-sum
 
 pub no-list-of-section-3 : (s : List ℕ) (number section place : ℕ) → three.outcome₃ s ≡ refused number section place → three.list₃ s ≡ []
 no-list-of-section-3 = refused-shows-none
@@ -186,6 +202,10 @@ range-has-12 = range-whole
 
 pub no-range-from-n-up : (kind : PartKind) (timed : Bool) (s : List ℕ) → Follows₄ kind timed s → (k : ℕ) → four.rangesAt kind timed s ≤ k → rangeOf s k ≡ []
 no-range-from-n-up = no-range
+
+-- a template without members, and one that counts none
+pub no-members-of-section-4 : (kind : PartKind) (timed : Bool) (s : List ℕ) → Follows₄ kind timed s → four.membersAt kind s ≡ 0 → membersOf s ≡ []
+no-members-of-section-4 = no-members
 
 pub no-views-of-section-4 : (s : List ℕ) (number section place : ℕ) → four.outcome₄ s ≡ refused number section place → ((k : ℕ) → rangeOf s k ≡ []) × (membersOf s ≡ []) × (coordinatesOf s ≡ [])
 no-views-of-section-4 = refused-nothing
@@ -217,20 +237,22 @@ pub unpacked-means : (bits n k : ℕ) (xs : List ℕ) → k < n → getD (unpack
 unfolding unpacked packedAt
 unpacked-means bits n k xs l = number-from bits 0 n k xs l ∙ ap (packedAt bits xs) (omega arith)
 
--- a row is written exactly when sections 5 and 7 are accepted and it has N places, and then it holds the N numbers
+-- a row is written exactly when sections 5 and 7 are accepted and it has N places, and then it holds the N numbers, and N is answered
 and-read : (a b : Outcome) (vs : List Value) → andThen a b ≡ read vs → ((us : List Value) × (a ≡ read us)) × (b ≡ read vs)
 unfolding andThen
 and-read (refused number section place) b vs e = let z : _≡_ {A = ℕ} 0 1 = cc in absurd (omega arith)
 and-read (read us) b vs e = ((us, refl), e)
 
 pub unpacking-means : (s5 s7 row later : List ℕ) (n : ℕ) → Unpacks s5 s7 row (Written n) later
-    → Follows₅ s5 × Follows₇ (five.valuesAt s5) (five.bitsAt s5) s7 × (length row ≡ five.valuesAt s5) × (later ≡ unpacked (five.bitsAt s5) (five.valuesAt s5) (drop 5 s7))
+    → (n ≡ five.valuesAt s5) × Follows₅ s5 × Follows₇ (five.valuesAt s5) (five.bitsAt s5) s7 × (length row ≡ five.valuesAt s5) × (later ≡ unpacked (five.bitsAt s5) (five.valuesAt s5) (drop 5 s7))
 unfolding unpackOutcome rowAfter toldUnpacked NoneHold
 unpacking-means s5 s7 row later n u =
     let whole = sym (u .answers) in
     let a = and-read (five.outcome₅ s5) _ _ whole in
     let b = and-read (seven.outcome₇ (five.valuesAt s5) (five.bitsAt s5) s7) _ _ (a .1) in
-    let c = read-none 0 _ (read (plain (five.valuesAt s5) ∷ [])) _ (b .1) in (
+    let c = read-none 0 _ (read (plain (five.valuesAt s5) ∷ [])) _ (b .1) in
+    let same = c .1 in (
+      cc,
       accepted-exactly-when₅ s5 .0 (a .0),
       accepted-exactly-when₇ (five.valuesAt s5) (five.bitsAt s5) s7 .0 (b .0),
       test-same _ _ (c .0 .0),

@@ -28,14 +28,14 @@ use Rattle.product.proofs.Templates.{bad-is, part-enough}
 
 -- ---- document 01's table and the blocks
 
-table-places : (kind : PartKind) → (forecastAt kind ≡ frontEnd kind + 8) × (countAt kind ≡ partEnd kind + 8)
+pub table-places : (kind : PartKind) → (forecastAt kind ≡ frontEnd kind + 8) × (countAt kind ≡ partEnd kind + 8)
 table-places noPart = (refl, refl)
 table-places Ensemble = (refl, refl)
 table-places Cluster = (refl, refl)
 table-places Probability = (refl, refl)
 table-places Aerosol = (refl, refl)
 
-table-total : (kind : PartKind) (timed : Bool) (s : List ℕ) → octetsBefore kind timed s + 4 * beAt s 6 2 ≡ totalIn kind timed s
+pub table-total : (kind : PartKind) (timed : Bool) (s : List ℕ) → octetsBefore kind timed s + 4 * beAt s 6 2 ≡ totalIn kind timed s
 unfolding total rangesEnd rangesAt
 table-total noPart false s = omega arith
 table-total Ensemble false s = omega arith
