@@ -10,8 +10,8 @@ use packing::Unpacked;
 pub mod part;
 pub mod shelves;
 
-// 18 x 2^40: 18, of no section and no place.
-pub(crate) const NO_ROOM: u64 = 19791209299968;
+// 18, of no section and no place.
+pub(crate) const NO_ROOM: u64 = 18 * 0x100_0000_0000;
 
 #[no_mangle]
 pub extern "C" fn skogmund_unpack(section5: &[u8], section7: &[u8], row: &mut [u32]) -> u64
@@ -37,7 +37,7 @@ pub(crate) fn code(x: Refusal) -> u64
     requires { ⌜ x .place ≤ 65536 ⌝ }
     ensures { λ r. ⌜ r ≡ codeOf x ⌝ }
 {
-    x.number as u64 * 1099511627776 + x.section as u64 * 4294967296 + x.place as u64
+    x.number as u64 * 0x100_0000_0000 + x.section as u64 * 0x1_0000_0000 + x.place as u64
 }
 
 // What the program `listing` prints for this queue, at the start of the text buffer, and its length in the first place of `length`.

@@ -19,11 +19,11 @@ use shelf::Slot;
 
 const SHELF: usize = 2624;
 
-// 16 x 2^40: 16, of no section and no place.
-const NO_SLOT: u64 = 17592186044416;
+// 16: no shelf has the slot.
+const NO_SLOT: u64 = 16 * 0x100_0000_0000;
 
-// 19 x 2^40: a number that is above 4,294,967,296.
-const MALFORMED: u64 = 20890720927744;
+// 19: issue + 1 is no number of a queue.
+const MALFORMED: u64 = 19 * 0x100_0000_0000;
 
 // The empty shelf.
 #[no_mangle]
@@ -160,7 +160,7 @@ pub extern "C" fn skogmund_slot(shelf: &[u8], slot: u64, values: &mut [i64]) -> 
     if values.len() < 64 {
         return crate::NO_ROOM;
     }
-    let held = shelf::slot_of(shelf_octets::read(shelf), slot as usize);
+    let held = shelf_octets::slot_of(shelf, slot as usize);
     show_slot(values, held);
     0
 }

@@ -5,9 +5,7 @@ use borrow.Author.Needs.{needs}
 use borrow.Author.Tests.{lt-ltb, le-ltb, eq-eqb, ne-eqb, le-leb, lt-leb}
 use denote.Ref.{now}
 use Rattle.octets.proofs.Free.{free}
-use Rattle.shelf.specs.declared.Shelf.{Shelf}
 use Rattle.shelf.specs.declared.Slot.{Slot}
-use Rattle.shelf.specs.Shelves.{slotAt}
 use Rattle.record.specs.Lent.{done}
 use Rattle.record.specs.Records.{withCount}
 use Rattle.skogmund.specs.Shelves.{slotNumbers, slotShown}
@@ -31,14 +29,14 @@ unfolding slotShown
 returns-4 c =
     let w = c .before in
     let held = w .before .before in
-    let e3 = held .before .before in
+    let e3 = held .before in
     let e2 = e3 .before in
     let e1 = e2 .before in
     let a = e1 .before .before .args in
     simp (le-ltb _ _ (e1 .if1 .left), eq-eqb _ _ (e2 .if2 .left), le-leb 64 _ (e3 .if3 .left))
     (ap (done 0)
     (w .show-slot .ensures
-    ∙ ap (λ (x : Slot). withCount (slotNumbers x) (now (a .values))) (held .slot-of .ensures ∙ ap (λ (s : Shelf). slotAt s (a .slot)) (held .before .read .ensures))))
+    ∙ ap (λ (x : Slot). withCount (slotNumbers x) (now (a .values))) (held .slot-of .ensures)))
 
 pub skogmund-slot-spec : {M : Type 1} → statement M
-skogmund-slot-spec = tie.close (tie.spec returns returns-2 returns-3 free free (λ c κs. search needs) (λ c. search needs) returns-4)
+skogmund-slot-spec = tie.close (tie.spec returns returns-2 returns-3 free (λ c κs. search needs) (λ c. search needs) returns-4)
