@@ -9,16 +9,10 @@ use mathlib.Core.List.{List, [], _∷_}
 use lib.Dec.{eqb, ltb, leb}
 use lib.IntN.{ℤ}
 use lib.ListN.{length}
-use borrow.Author.Tests.{leb-true, eqb-true, eq-eqb}
-use Rattle.octets.specs.Octets.{beAt}
-use Rattle.layout.specs.Fields.{plain}
+use borrow.Author.Tests.{leb-true, eqb-true}
 use Rattle.layout.specs.Outcomes.{Outcome, refused, read}
 use Rattle.layout.specs.declared.Refusal.{Refusal}
 use Rattle.layout.proofs.Ranges.{both-hold}
-use Rattle.identification.specs.Section1.{outcome₁}
-use Rattle.grid.specs.Section3.{outcome₃}
-use Rattle.product.specs.Section4.{outcome₄}
-use Rattle.packing.specs.Section5.{outcome₅}
 use Rattle.packing.specs.Unpacking.{unpackOutcome}
 use Rattle.shelf.specs.declared.Shelf.{Shelf}
 use Rattle.shelf_octets.specs.ShelfOctets.{shelfIn}
@@ -29,15 +23,17 @@ use Rattle.queue.specs.Records.{issueFrom}
 use Rattle.queue.specs.declared.QueueAnswer.{QueueAnswer}
 use Rattle.queue.specs.declared.QueueAnswer.the-variants.{Filed as filedAll, Refused as refusedAll}
 use Rattle.queue.specs.Queues.{queueFiled}
-use Rattle.refusals.specs.Refusals.{Row, oneOf, numbersOf, Listed, numbers₁, numbers₃, numbers₄, numbers₅, table₁, table₃, table₄, table₅, unpackTable, filingTable, queueTable}
-use Rattle.refusals.proofs.RefusalNumbers.{Refuses, wider, refuses-wider, head-refuses, refuses₁, refuses₃, refuses₄, refuses₅, unpack-refuses, filing-refuses, queue-refuses}
+use Rattle.refusals.specs.Refusals.{Row, oneOf, numbersOf, Listed, unpackTable, filingTable, queueTable}
+use Rattle.refusals.proofs.RefusalNumbers.{Refuses, wider, unpack-refuses, filing-refuses, queue-refuses}
 use Rattle.record.specs.Lent.{Done, done}
-use Rattle.record.specs.Records.{sectionOutcome, outcome₇alone, refusal, intoRow}
+use Rattle.record.specs.Refused.{readTable}
+use Rattle.record.specs.Records.{refusal}
+use Rattle.record.proofs.RecordRead.{read-into-refuses}
 use Rattle.skogmund.specs.Entries.{code, codeOf, coded, noRoom, ifRoom, rowUnpacked, recordTold, fits, listingTold}
 use Rattle.skogmund.specs.Parts.{partTold}
 use Rattle.skogmund.specs.Shelves.{isShelf, emptied, joined, keptIn, fieldKept, filedField, queueKept, filedQueue, slotShown}
 use Rattle.skogmund.proofs.Answered.{taken-apart}
-use Rattle.demands.specs.NumbersForC.{Answers, octetSections, roomTable, slotTable, readTable, fileTable, fileQueueTable}
+use Rattle.demands.specs.NumbersForC.{Answers, octetSections, roomTable, slotTable, fileTable, fileQueueTable}
 
 -- ---- one number, one refusal
 
@@ -65,46 +61,6 @@ of-outcome table (read vs) r = inl refl
 pub unpack-answers : (five seven row : List ℕ) → Answers unpackTable (rowUnpacked five seven row .answer)
 unfolding rowUnpacked
 unpack-answers five seven row = of-outcome unpackTable (unpackOutcome five seven row) (unpack-refuses five seven row)
-
--- 4 is a number of every section
-four : (a b c d e f g : Bool) → g ≡ true
-    → oneOf (cond a numbers₁ (cond b numbers₃ (cond c numbers₄ (cond d numbers₅ (cond e (1 ∷ 2 ∷ 3 ∷ 4 ∷ []) (cond f (4 ∷ 18 ∷ []) (cond g (4 ∷ []) []))))))) 4 ≡ true
-four true b c d e f g h = refl
-four false true c d e f g h = refl
-four false false true d e f g h = refl
-four false false false true e f g h = refl
-four false false false false true f g h = refl
-four false false false false false true g h = refl
-four false false false false false false true h = refl
-four false false false false false false false h = absurd (true≢false (sym h))
-
-section-refuses : (section : ℕ) (s : List ℕ) → Refuses (readTable section) (sectionOutcome section s)
-unfolding sectionOutcome outcome₇alone
-section-refuses section s =
-    let seven = read (plain (beAt s 1 4) ∷ plain (beAt s 5 1) ∷ []) in
-    let t = readTable section in
-    by (eqb section 1) _ _ (refuses-wider t table₁ (outcome₁ s) refl (refuses₁ s))
-    (by (eqb section 3) _ _ (refuses-wider t table₃ (outcome₃ s) refl (refuses₃ s))
-    (by (eqb section 4) _ _ (refuses-wider t table₄ (outcome₄ s) refl (refuses₄ s))
-    (by (eqb section 5) _ _ (refuses-wider t table₅ (outcome₅ s) refl (refuses₅ s))
-    (by (eqb section 7) _ (refused 4 section 0) (head-refuses t 7 s seven refl tt) (record { listed = four (eqb section 1) (eqb section 3) (eqb section 4) (eqb section 5) (eqb section 7) (eqb section 0) (eqb section section) (eq-eqb section section refl); placed = refl; within = omega arith })))))
-  where
-    by : (t : Bool) (a b : Outcome) → Refuses (readTable section) a → Refuses (readTable section) b → Refuses (readTable section) (cond t a b)
-    by true a b p q = p
-    by false a b p q = q
-
--- none, or a refusal that the table lists
-pub read-into-refuses : (section : ℕ) (s : List ℕ) (row : List ℤ) → (intoRow (sectionOutcome section s) row .answer ≡ refusal 0 0 0) ⊎ Listed (readTable section) (intoRow (sectionOutcome section s) row .answer)
-unfolding intoRow
-read-into-refuses section s row = by (sectionOutcome section s) (section-refuses section s)
-  where
-    by-room : (t : Bool) (row′ : List ℤ) → let x = cond t (done (refusal 18 0 0) row) (done (refusal 0 0 0) row′) .answer in (x ≡ refusal 0 0 0) ⊎ Listed (readTable section) x
-    by-room true row′ = inr (record { listed = refl; placed = refl; within = omega arith })
-    by-room false row′ = inl refl
-
-    by : (o : Outcome) → Refuses (readTable section) o → (intoRow o row .answer ≡ refusal 0 0 0) ⊎ Listed (readTable section) (intoRow o row .answer)
-    by (refused number section′ place) r = inr r
-    by (read vs) r = by-room (ltb (length row) 64) _
 
 pub read-answers : (section : ℕ) (s : List ℕ) (row : List ℤ) → Answers (readTable section) (recordTold section s row .answer)
 unfolding recordTold

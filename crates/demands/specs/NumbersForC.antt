@@ -1,4 +1,5 @@
--- With which of document 01's numbers an entry for C refuses: those of what it calls, 18 where there is no room, and 19 for a number.
+-- With which of document 01's numbers an entry for C refuses: those of what it calls, 18 where there is no room, and 19 for a number. (Of
+-- `skogmund_read`: `readTable`, `record/specs/Refused.antt`.)
 -- Assumes nothing.
 use Prim.Native.Nat.{ℕ}
 use mathlib.Core.Path.{_≡_}
@@ -7,7 +8,7 @@ use mathlib.Core.Bool.{Bool, true, _&&_}
 use mathlib.Core.List.{List, [], _∷_}
 use lib.Dec.{leb}
 use Rattle.layout.specs.declared.Refusal.{Refusal}
-use Rattle.refusals.specs.Refusals.{Row, row, Listed, numbers₁, numbers₃, numbers₄, numbers₅, laterRows}
+use Rattle.refusals.specs.Refusals.{Row, row, Listed, numbers₁, laterRows}
 use Rattle.skogmund.specs.Entries.{codeOf}
 
 -- none, or a refusal that the table lists
@@ -24,18 +25,6 @@ roomTable = row 0 (18 ∷ []) ∷ []
 
 abbrev pub slotTable : List Row
 slotTable = row 0 (16 ∷ 18 ∷ []) ∷ []
-
--- section 7 alone knows 1 to 4 only, and another section number is 4
-abbrev pub readTable : ℕ → List Row
-readTable section =
-    row 1 numbers₁
-    ∷ row 3 numbers₃
-    ∷ row 4 numbers₄
-    ∷ row 5 numbers₅
-    ∷ row 7 (1 ∷ 2 ∷ 3 ∷ 4 ∷ [])
-    ∷ row 0 (4 ∷ 18 ∷ [])
-    ∷ row section (4 ∷ [])
-    ∷ []
 
 abbrev pub fileTable : List Row
 fileTable = row 0 (16 ∷ 18 ∷ 19 ∷ []) ∷ row 1 (17 ∷ numbers₁) ∷ laterRows
