@@ -5,9 +5,8 @@ use mathlib.Core.List.{List, [], _∷_, _++_, map}
 use lib.ListN.{length, getD}
 use lib.IntN.{ℤ, pos}
 use Rattle.octets.specs.Octets.{digits, allOnes}
-use Rattle.layout.specs.Fields.{Value, none, missing, is, which}
-use Rattle.layout.specs.Outcomes.{Outcome, refused, read}
-use Rattle.layout.specs.Examples.{Example}
+use Rattle.layout.specs.Fields.{Value, none, wholeIn}
+use Rattle.layout.specs.Examples.{Example, answered}
 use Rattle.grid.specs.Section3.{outcome₃, list₃}
 
 -- octets 1 to 14: length, number, source, points, list width, list interpretation, template number
@@ -35,20 +34,13 @@ exampleList = digits 2 4 ++ (digits 2 6 ++ digits 2 4)
 unfoldable pub exampleSection : List ℕ
 exampleSection = exampleHead ++ (exampleEarth ++ (exampleMesh ++ exampleList))
 
--- the number of points, of a section that is accepted
-abbrev pub pointsIn : Value → List ℤ
-pointsIn none = []
-pointsIn missing = []
-pointsIn (is points) = points ∷ []
-pointsIn (which n) = []
-
-abbrev pub pointsRead : Outcome → List ℤ
-pointsRead (refused number section place) = []
-pointsRead (read values) = pointsIn (getD values 3 none)
+-- the number of points, of the values that are read
+abbrev pub pointsRead : List Value → List ℤ
+pointsRead values = wholeIn (getD values 3 none) ∷ []
 
 abbrev pub starredGrids : List Example
 starredGrids =
-    record { made = pos (length exampleSection) ∷ pointsRead (outcome₃ exampleSection); stated = pos 78 ∷ pos 14 ∷ [] }
+    record { made = pos (length exampleSection) ∷ answered pointsRead (outcome₃ exampleSection); stated = pos 78 ∷ pos 14 ∷ [] }
     ∷ record {
       made = map pos (list₃ exampleSection);
       stated = pos 0 ∷ pos 4 ∷ pos 0 ∷ pos 6 ∷ pos 0 ∷ pos 4 ∷ [];

@@ -5,8 +5,8 @@ use mathlib.Core.List.{List, [], _∷_, _++_}
 use lib.ListN.{replicate}
 use lib.IntN.{ℤ, pos, negℤ}
 use Rattle.octets.specs.Octets.{digits}
-use Rattle.layout.specs.Outcomes.{Outcome, refused, read}
-use Rattle.layout.specs.Examples.{Example}
+use Rattle.layout.specs.Fields.{Value}
+use Rattle.layout.specs.Examples.{Example, answered}
 use Rattle.identification.specs.Section1.{outcome₁, realYearOf}
 
 -- octets 1 to 23: of so many octets, with a year, 1 January, a template number, and all else 0
@@ -21,16 +21,15 @@ example11 year offset = exampleFront 25 year 1 ++ digits 2 offset
 abbrev pub example12 : ℕ → ℕ → List ℕ
 example12 year offset = exampleFront 26 year 2 ++ (0 ∷ digits 2 offset)
 
--- the real year of a section that is read
-abbrev pub realYearRead : Outcome → List ℤ
-realYearRead (refused number section place) = []
-realYearRead (read values) = realYearOf values ∷ []
+-- the real year, of the values that are read
+abbrev pub realYearRead : List Value → List ℤ
+realYearRead values = realYearOf values ∷ []
 
 -- it is the same of both
 abbrev pub realYearIs : ℕ → ℕ → ℤ → Example
 realYearIs year offset real =
     record {
-      made = realYearRead (outcome₁ (example11 year offset)) ++ realYearRead (outcome₁ (example12 year offset));
+      made = answered realYearRead (outcome₁ (example11 year offset)) ++ answered realYearRead (outcome₁ (example12 year offset));
       stated = real ∷ real ∷ [];
     }
 

@@ -6,22 +6,16 @@ use lib.ListN.{replicate}
 use lib.IntN.{ℤ, pos}
 use Rattle.octets.specs.Octets.{digits}
 use Rattle.layout.specs.Fields.{wholeIn}
-use Rattle.layout.specs.Outcomes.{Outcome, refused, read}
-use Rattle.layout.specs.Examples.{Example}
+use Rattle.layout.specs.Examples.{Example, answered}
 use Rattle.packing.specs.Section7.{outcome₇}
 use Rattle.packing.specs.Unpacking.{unpackOutcome, rowAfter}
-
--- a refusal's number, section and place, or 0 and the values that are read
-abbrev pub answered : Outcome → List ℤ
-answered (refused number section place) = pos number ∷ pos section ∷ pos place ∷ []
-answered (read values) = pos 0 ∷ map wholeIn values
 
 -- N = 14, 9 bits: a section 7 of 21 octets is read, with its length and number; one of 20 or 22 is refused with 15
 abbrev pub section7 : ℕ → List ℕ
 section7 octets = digits 4 octets ++ (7 ∷ replicate (octets - 5) 0)
 
 abbrev pub fourteen : ℕ → List ℤ → Example
-fourteen octets stated = record { made = answered (outcome₇ 14 9 (section7 octets)); stated = stated }
+fourteen octets stated = record { made = answered (map wholeIn) (outcome₇ 14 9 (section7 octets)); stated = stated }
 
 -- octets 0C 44, 3 values of 5 bits: a row of 3 places is written with 1, 17, 2
 abbrev pub three5 : List ℕ
@@ -32,9 +26,9 @@ three7 = digits 4 7 ++ (7 ∷ 0x0c ∷ 0x44 ∷ [])
 
 abbrev pub starredPacking : List Example
 starredPacking =
-    fourteen 21 (pos 0 ∷ pos 21 ∷ pos 7 ∷ [])
+    fourteen 21 (pos 21 ∷ pos 7 ∷ [])
     ∷ fourteen 20 (pos 15 ∷ pos 7 ∷ pos 0 ∷ [])
     ∷ fourteen 22 (pos 15 ∷ pos 7 ∷ pos 0 ∷ [])
-    ∷ record { made = answered (unpackOutcome three5 three7 (replicate 3 0)); stated = pos 0 ∷ pos 3 ∷ [] }
+    ∷ record { made = answered (map wholeIn) (unpackOutcome three5 three7 (replicate 3 0)); stated = pos 3 ∷ [] }
     ∷ record { made = map pos (rowAfter three5 three7 (replicate 3 0)); stated = pos 1 ∷ pos 17 ∷ pos 2 ∷ [] }
     ∷ []

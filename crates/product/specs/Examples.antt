@@ -3,9 +3,8 @@
 use Prim.Native.Nat.{ℕ, _-_}
 use mathlib.Core.List.{List, [], _∷_}
 use lib.ListN.{set, replicate}
-use lib.IntN.{ℤ, pos}
-use Rattle.layout.specs.Outcomes.{Outcome, refused, read}
-use Rattle.layout.specs.Examples.{Example}
+use lib.IntN.{pos}
+use Rattle.layout.specs.Examples.{Example, answered}
 use Rattle.product.specs.Section4.{outcome₄}
 
 -- a section of so many octets, with a template and NV, all else 0 but what is put at some octets, where octets count from 1
@@ -19,16 +18,11 @@ put at x s = set s (at - 1) x
 abbrev pub ending : ℕ → ℕ → List ℕ → List ℕ
 ending p n s = put p n (put (p - 4) 1 (put (p - 5) 1 s))
 
--- nothing where a section is read, and else the refusal's number, section and place
-abbrev pub refusalIn : Outcome → List ℤ
-refusalIn (refused number section place) = pos number ∷ pos section ∷ pos place ∷ []
-refusalIn (read vs) = []
-
 abbrev pub isRead : List ℕ → Example
-isRead s = record { made = refusalIn (outcome₄ s); stated = [] }
+isRead s = record { made = answered (λ values. []) (outcome₄ s); stated = [] }
 
 abbrev pub isRefused : ℕ → List ℕ → Example
-isRefused number s = record { made = refusalIn (outcome₄ s); stated = pos number ∷ pos 4 ∷ pos 0 ∷ [] }
+isRefused number s = record { made = answered (λ values. []) (outcome₄ s); stated = pos number ∷ pos 4 ∷ pos 0 ∷ [] }
 
 abbrev pub starredProducts : List Example
 starredProducts =
