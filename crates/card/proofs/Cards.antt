@@ -7,7 +7,7 @@ use lib.IntN.{pos}
 use Rattle.card.specs.declared.Card.{Card}
 use Rattle.card.specs.Order.{maxOf}
 use Rattle.card.specs.Key.{keyOf, lessCard}
-use Rattle.card.proofs.Strict.{Strict, Join, pulled, max-join}
+use Rattle.card.proofs.Strict.{Strict, pulled}
 use Rattle.card.proofs.Lex.{lex-strict, Z-strict}
 
 pos-apart : (l m : List ℕ) → map pos l ≡ map pos m → l ≡ m
@@ -46,7 +46,3 @@ card-strict = pulled keyOf key-apart (lex-strict Z-strict)
 -- the greater of two cards; where neither is greater they are one card
 unfoldable pub greaterCard : Card → Card → Card
 greaterCard = maxOf lessCard
-
-pub greater-join : Join greaterCard
-unfolding greaterCard
-greater-join = max-join card-strict

@@ -11,7 +11,8 @@ pub use Rattle.identification.proofs.FieldsCoverOnce.{at-none, at-1-0, at-1-1, 
 pub use Rattle.grid.proofs.FieldsCoverOnce.{at-3-0, at-3-1, at-3-2, at-3-3}
 pub use Rattle.product.proofs.FieldsCoverOnce.{at-4-0, at-4-1, at-4-4, at-4-5, at-4-8, at-4-9, at-4-11, at-4-14, at-4-46}
 pub use Rattle.packing.proofs.FieldsCoverOnce.{at-5, at-7}
--- and of section 4: n, the forecast time and the total that refusals look at are those of document 01's table (`product/specs/Accepted.antt`)
+-- and of section 4: the total and n that refusals look at are those of document 01's table, the forecast time that of the layouts
+-- (`product/specs/Accepted.antt`)
 pub use Rattle.product.proofs.AcceptedExactlyWhen.{table-places, table-total}
 -- The rest are the theorems of this file.
 use Prim.Native.Nat.{ℕ, zero, suc, _+_, _*_, _<_, _≤_}

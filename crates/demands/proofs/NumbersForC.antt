@@ -10,7 +10,8 @@ use lib.Dec.{eqb, ltb, leb}
 use lib.IntN.{ℤ}
 use lib.ListN.{length}
 use borrow.Author.Tests.{leb-true, eqb-true}
-use Rattle.layout.specs.Outcomes.{Outcome, refused, read}
+use Rattle.layout.specs.Outcomes.{Outcome, refused, read, noRefusal, refusal}
+use Rattle.layout.proofs.Outcomes.{either}
 use Rattle.layout.specs.declared.Refusal.{Refusal}
 use Rattle.layout.proofs.Ranges.{both-hold}
 use Rattle.packing.specs.Unpacking.{unpackOutcome}
@@ -25,11 +26,10 @@ use Rattle.queue.specs.declared.QueueAnswer.the-variants.{Filed as filedAll, Re
 use Rattle.queue.specs.Queues.{queueFiled}
 use Rattle.refusals.specs.Refusals.{Row, oneOf, numbersOf, Listed, unpackTable, filingTable, queueTable}
 use Rattle.refusals.proofs.RefusalNumbers.{Refuses, wider, unpack-refuses, filing-refuses, queue-refuses}
-use Rattle.record.specs.Lent.{Done, done}
+use Rattle.record.specs.Lent.{Done}
 use Rattle.record.specs.Refused.{readTable}
-use Rattle.record.specs.Records.{refusal}
 use Rattle.record.proofs.RecordRead.{read-into-refuses}
-use Rattle.skogmund.specs.Entries.{code, codeOf, coded, noRoom, ifRoom, rowUnpacked, recordTold, fits, listingTold}
+use Rattle.skogmund.specs.Entries.{code, codeOf, coded, ifRoom, rowUnpacked, recordTold, fits, listingTold}
 use Rattle.skogmund.specs.Parts.{partTold}
 use Rattle.skogmund.specs.Shelves.{isShelf, emptied, joined, keptIn, fieldKept, filedField, queueKept, filedQueue, slotShown}
 use Rattle.skogmund.proofs.Answered.{taken-apart}
@@ -66,7 +66,7 @@ pub read-answers : (section : ℕ) (s : List ℕ) (row : List ℤ) → Answers (
 unfolding recordTold
 read-answers section s row = by (read-into-refuses section s row)
   where
-    by : {x : Refusal} → (x ≡ refusal 0 0 0) ⊎ Listed (readTable section) x → Answers (readTable section) (codeOf x)
+    by : {x : Refusal} → (x ≡ noRefusal) ⊎ Listed (readTable section) x → Answers (readTable section) (codeOf x)
     by (inl e) = inl (ap codeOf e)
     by {x} (inr l) = inr (x, refl, l)
 
@@ -76,44 +76,43 @@ read-answers section s row = by (read-into-refuses section s row)
 plainly : (table : List Row) (number : ℕ) → oneOf (numbersOf table 0) number ≡ true → eqb number 8 ≡ false → Answers table (code number 0 0)
 plainly table number e f = inr (refusal number 0 0, refl, record { listed = e; placed = sym f; within = omega arith })
 
-either : {B : Type 0} (table : List Row) (t : Bool) (x y : Done ℕ B) → Answers table (x .answer) → Answers table (y .answer) → Answers table (cond t x y .answer)
-either table true x y p q = p
-either table false x y p q = q
+abbrev AnswersBy : {B : Type 0} → List Row → Done ℕ B → Type 0
+AnswersBy table x = Answers table (x .answer)
 
-by-room : {B : Type 0} (table : List Row) (t : Bool) (after before : B) → oneOf (numbersOf table 0) 18 ≡ true → Answers table (ifRoom t after before .answer)
-by-room table t after before e = either table t (done 0 after) (done noRoom before) (inl refl) (plainly table 18 e refl)
+room-answers : {B : Type 0} (table : List Row) (t : Bool) (after before : B) → oneOf (numbersOf table 0) 18 ≡ true → Answers table (ifRoom t after before .answer)
+room-answers table t after before e = either (AnswersBy table) t (inl refl) (plainly table 18 e refl)
 
 pub part-answers : (part : ℕ) (s : List ℕ) (k : ℕ) (places : List ℕ) → Answers roomTable (partTold part s k places .answer)
 unfolding partTold
-part-answers part s k places = by-room roomTable (leb 2 (length places)) _ _ refl
+part-answers part s k places = room-answers roomTable (leb 2 (length places)) _ _ refl
 
 pub list-answers : (q text places : List ℕ) → Answers roomTable (listingTold q text places .answer)
 unfolding listingTold
-list-answers q text places = by-room roomTable (fits q text places) _ _ refl
+list-answers q text places = room-answers roomTable (fits q text places) _ _ refl
 
 pub empty-answers : (s : List ℕ) → Answers roomTable (emptied s .answer)
 unfolding emptied
-empty-answers s = by-room roomTable (isShelf s) _ _ refl
+empty-answers s = room-answers roomTable (isShelf s) _ _ refl
 
 pub join-answers : (s other : List ℕ) → Answers roomTable (joined s other .answer)
 unfolding joined
-join-answers s other = by-room roomTable (isShelf s && isShelf other) _ _ refl
+join-answers s other = room-answers roomTable (isShelf s && isShelf other) _ _ refl
 
 pub slot-answers : (s : List ℕ) (slot : ℕ) (values : List ℤ) → Answers slotTable (slotShown s slot values .answer)
 unfolding slotShown
-slot-answers s slot values = either slotTable (ltb 63 slot) _ _ (plainly slotTable 16 refl refl) (by-room slotTable (isShelf s && leb 64 (length values)) _ _ refl)
+slot-answers s slot values = either (AnswersBy slotTable) (ltb 63 slot) (plainly slotTable 16 refl refl) (room-answers slotTable (isShelf s && leb 64 (length values)) _ _ refl)
 
 -- ---- filing
 
 keep-answers : (table : List Row) (s places : List ℕ) (after : Shelf) (ns : List ℕ) → oneOf (numbersOf table 0) 18 ≡ true → Answers table (keptIn s places after ns .answer)
 unfolding keptIn
-keep-answers table s places after ns e = by-room table (isShelf s && leb (length ns) (length places)) _ _ e
+keep-answers table s places after ns e = room-answers table (isShelf s && leb (length ns) (length places)) _ _ e
 
 pub field-answers : (s : List ℕ) (slot stored : ℕ) (s1 s3 s4 s5 s7 places : List ℕ) → Answers fileTable (filedField s slot stored s1 s3 s4 s5 s7 places .answer)
 unfolding filedField fieldKept
 field-answers s slot stored s1 s3 s4 s5 s7 places =
     let made = filedOf (shelfIn s) slot (issueFrom stored) s1 s3 s4 s5 s7 in
-    either fileTable (ltb 4294967296 stored) _ _ (plainly fileTable 19 refl refl)
+    either (AnswersBy fileTable) (ltb 4294967296 stored) (plainly fileTable 19 refl refl)
     (by (made .shelf) (made .answer) (λ x e. wider fileTable filingTable x refl (filing-refuses (shelfIn s) slot (issueFrom stored) s1 s3 s4 s5 s7 x e)))
   where
     by : (after : Shelf) (a : Answer) → ((x : Refusal) → a ≡ refusedField x → Listed fileTable x) → Answers fileTable (fieldKept s places after a .answer)

@@ -6,7 +6,7 @@ use mathlib.Core.Bool.{not}
 use lib.Dec.{eqb}
 use Rattle.octets.specs.Octets.{beAt}
 use Rattle.layout.specs.Fields.{Value}
-use Rattle.layout.specs.Outcomes.{Outcome, refused, read, reason, firstOf}
+use Rattle.layout.specs.Outcomes.{Outcome, refused, read, reason, firstOf, noRefusal}
 use Rattle.identification.specs.Section1.{outcome₁, valuesIn as valuesIn₁}
 use Rattle.grid.specs.Section3.{outcome₃, valuesIn as valuesIn₃}
 use Rattle.product.specs.Section4.{outcome₄, valuesIn as valuesIn₄}
@@ -55,4 +55,4 @@ told (Refused x) = refusedField (x .number) (x .section) (x .place)
 -- the refusal of an answer that is one; of none, zeros
 abbrev pub refusalIn : Answer → Refusal
 refusalIn (Refused x) = x
-refusalIn (Read x) = record { number = 0; section = 0; place = 0 }
+refusalIn (Read x) = noRefusal

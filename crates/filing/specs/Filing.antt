@@ -8,6 +8,7 @@ use mathlib.Core.Bool.{Bool, true, false, not, cond}
 use lib.Dec.{ltb, eqb}
 use Rattle.octets.specs.Octets.{beAt, part}
 use Rattle.layout.specs.Fields.{Value, naturalIn}
+use Rattle.layout.specs.Outcomes.{refusal}
 use Rattle.identification.specs.Section1.{realYearAt, realYearOf, monthOf, dayOf, hourOf, minuteOf, secondOf, calendarOf}
 use Rattle.identification.specs.declared.Template.{Template}
 use Rattle.identification.specs.declared.Template.the-variants.{None as noTemplate, Calendar, Offset, CalendarAndOffset}
@@ -99,7 +100,7 @@ afterPut x = record { shelf = x .shelf; answer = keptIf (x .changed) }
 
 unfoldable pub filedBy : Shelf → ℕ → Filing → Filed
 filedBy shelf slot (refusedFiling number section place) =
-    record { shelf = shelf; answer = Refused (record { number = number; section = section; place = place }) }
+    record { shelf = shelf; answer = Refused (refusal number section place) }
 filedBy shelf slot (accepted card) = afterPut (putOf shelf slot card)
 
 unfoldable pub filedOf : Shelf → ℕ → Issue → List ℕ → List ℕ → List ℕ → List ℕ → List ℕ → Filed

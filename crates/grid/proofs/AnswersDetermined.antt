@@ -5,7 +5,7 @@ use mathlib.Core.Path.{_≡_, refl, ap, sym, _∙_}
 use mathlib.Core.List.{List}
 use lib.ListN.{getD, drop}
 use Rattle.layout.specs.Fields.{Value, none, wholeIn, naturalIn}
-use Rattle.layout.specs.Outcomes.{Outcome, refused, read}
+use Rattle.layout.specs.Outcomes.{Outcome, refused, read, refusal}
 use Rattle.layout.proofs.Untold.{to32, back32, told-back}
 use Rattle.grid.specs.Section3.{told, valuesIn, scaledIn, earthIn, commonIn, poleIn, polesIn, outcome₃}
 use Rattle.grid.specs.declared.Scaled.{Scaled}
@@ -72,7 +72,7 @@ toCommon vs = record {
 }
 
 untold : Outcome → Answer
-untold (refused n s p) = Refused (record { number = n; section = s; place = p })
+untold (refused n s p) = Refused (refusal n s p)
 untold (read vs) =
     Read
     (record {

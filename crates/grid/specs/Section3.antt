@@ -7,7 +7,7 @@ use lib.ListN.{length}
 use lib.Dec.{ltb, leb, eqb}
 use Rattle.octets.specs.Octets.{beAt, allOnes}
 use Rattle.layout.specs.Fields.{Value, none, is, which, plain, unsigned, Field, held, shown, between, raw, ranged, signedPresent, optional, nonzeroOrMissing, lacking, tag, after, badPlace, valuesOf}
-use Rattle.layout.specs.Outcomes.{Outcome, read, refusedBy, ifRead, Reason, reason, badField, firstOf, headReasons}
+use Rattle.layout.specs.Outcomes.{Outcome, read, refusedBy, ifRead, Reason, reason, badField, firstOf, headReasons, noRefusal}
 use Rattle.layout.specs.Missing.{in32}
 use Rattle.layout.specs.Spans.{nowhere, spanAfter, octetsIn}
 use Rattle.layout.specs.declared.Refusal.{Refusal}
@@ -254,4 +254,4 @@ told (Refused x) = refusedBy x
 -- the refusal of an answer that is one; of none, zeros
 abbrev pub refusalIn : Answer → Refusal
 refusalIn (Refused x) = x
-refusalIn (Read x) = record { number = 0; section = 0; place = 0 }
+refusalIn (Read x) = noRefusal

@@ -6,7 +6,7 @@ use mathlib.Core.List.{List}
 use lib.ListN.{getD}
 use lib.IntN.{natAbs}
 use Rattle.layout.specs.Fields.{Value, none, missing, is, which, wholeIn, naturalIn}
-use Rattle.layout.specs.Outcomes.{Outcome, refused, read}
+use Rattle.layout.specs.Outcomes.{Outcome, refused, read, refusal}
 use Rattle.layout.specs.Time.{timeIn}
 use Rattle.layout.proofs.Untold.{toTime, told-back}
 use Rattle.identification.specs.Section1.{told, valuesIn, numberIn, calendarIn, offsetIn, outcome₁}
@@ -58,7 +58,7 @@ offset-back (isOffset z) = refl
 -- ---- the answer that an outcome is of
 
 untold : Outcome → Answer
-untold (refused n s p) = Refused (record { number = n; section = s; place = p })
+untold (refused n s p) = Refused (refusal n s p)
 untold (read vs) =
     Read
     (record {

@@ -8,7 +8,7 @@ use lib.Dec.{ltb, eqb}
 use lib.IntN.{ℤ, pos}
 use Rattle.octets.specs.Octets.{beAt, signOf, realYear}
 use Rattle.layout.specs.Fields.{Value, none, is, plain, wholeIn, naturalIn, Meaning, unsigned, signed, Field, held, notOnes, raw, signedPresent, lacking, after, badPlace, valuesOf}
-use Rattle.layout.specs.Outcomes.{Outcome, refused, read, refusedBy, Reason, reason, badField, firstOf, headReasons}
+use Rattle.layout.specs.Outcomes.{Outcome, refused, read, refusedBy, Reason, reason, badField, firstOf, headReasons, noRefusal}
 use Rattle.layout.specs.Time.{time, timeIn}
 use Rattle.layout.specs.declared.Refusal.{Refusal}
 use Rattle.identification.specs.declared.Template.{Template}
@@ -168,4 +168,4 @@ told (Refused x) = refusedBy x
 -- the refusal of an answer that is one; of none, zeros
 abbrev pub refusalIn : Answer → Refusal
 refusalIn (Refused x) = x
-refusalIn (Read x) = record { number = 0; section = 0; place = 0 }
+refusalIn (Read x) = noRefusal

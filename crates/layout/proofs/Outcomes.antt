@@ -57,6 +57,13 @@ none-last section (r ∷ rs) o h = rw (h .0) (none-last section rs o (h .1))
 pub answer-is : {A B : Type 0} (tell : A → B) {a b : A} {o : B} → tell a ≡ o → a ≡ b → o ≡ tell b
 answer-is tell p e = sym p ∙ ap tell e
 
+-- ---- of a choice
+
+-- what holds of both holds of the one that is chosen
+pub either : {A : Type 0} (P : A → Type 0) (t : Bool) {x y : A} → P x → P y → P (cond t x y)
+either P true p q = p
+either P false p q = q
+
 -- ---- what a section has
 
 -- what holds where it is refused, and where it is read, holds

@@ -14,6 +14,14 @@ pub data Outcome : Type 0 where
   refused : ℕ → ℕ → ℕ → Outcome
   read : List Value → Outcome
 
+-- a program's refusal, by number, section and place
+abbrev pub refusal : ℕ → ℕ → ℕ → Refusal
+refusal number section place = record { number = number; section = section; place = place }
+
+-- what stands for none
+abbrev pub noRefusal : Refusal
+noRefusal = refusal 0 0 0
+
 -- what a program's refusal says
 abbrev pub refusedBy : Refusal → Outcome
 refusedBy x = refused (x .number) (x .section) (x .place)

@@ -5,7 +5,7 @@ use mathlib.Core.Path.{_≡_, refl, ap, sym, _∙_}
 use mathlib.Core.List.{List}
 use lib.ListN.{getD}
 use Rattle.layout.specs.Fields.{none, wholeIn, naturalIn}
-use Rattle.layout.specs.Outcomes.{Outcome, refused, read}
+use Rattle.layout.specs.Outcomes.{Outcome, refused, read, refusal}
 use Rattle.layout.proofs.Untold.{told-back}
 use Rattle.packing.specs.Section5.{told₅, valuesIn₅, outcome₅}
 use Rattle.packing.specs.Section7.{told₇, valuesIn₇, outcome₇}
@@ -21,7 +21,7 @@ use Rattle.packing.specs.declared.Unpacked.the-variants.{Written, Refuse
 -- ---- section 5
 
 untold₅ : Outcome → Answer
-untold₅ (refused n s p) = Refused₅ (record { number = n; section = s; place = p })
+untold₅ (refused n s p) = Refused₅ (refusal n s p)
 untold₅ (read vs) =
     Read₅
     (record {
@@ -52,7 +52,7 @@ same-record₅ x y e = let r : Read₅ x ≡ Read₅ y = told-back told₅ untol
 -- ---- section 7
 
 untold₇ : Outcome → DataAnswer
-untold₇ (refused n s p) = Refused₇ (record { number = n; section = s; place = p })
+untold₇ (refused n s p) = Refused₇ (refusal n s p)
 untold₇ (read vs) = Read₇ (record { length = naturalIn (getD vs 0 none); number = naturalIn (getD vs 1 none) })
 
 back₇ : (a : DataAnswer) → untold₇ (told₇ a) ≡ a
@@ -66,7 +66,7 @@ determined₇ n bits s a b p q = told-back told₇ untold₇ back₇ a b (p ∙ 
 -- ---- unpacking
 
 untold : Outcome → Unpacked
-untold (refused n s p) = Refused (record { number = n; section = s; place = p })
+untold (refused n s p) = Refused (refusal n s p)
 untold (read vs) = Written (naturalIn (getD vs 0 none))
 
 back : (a : Unpacked) → untold (toldUnpacked a) ≡ a

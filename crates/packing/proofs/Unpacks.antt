@@ -6,7 +6,7 @@ use mathlib.Core.List.{List}
 use lib.ListN.{length, getD, drop}
 use borrow.Author.Tests.{eq-eqb, ne-eqb}
 use Rattle.layout.specs.Fields.{Value, none, placed, valuesOf, naturalIn}
-use Rattle.layout.specs.Outcomes.{read, refusedBy, firstOf, andThen}
+use Rattle.layout.specs.Outcomes.{read, refusedBy, firstOf, andThen, refusal}
 use Rattle.layout.specs.declared.Refusal.{Refusal}
 use Rattle.packing.specs.Packed.{unpacked}
 use Rattle.packing.specs.Section5.{fields₅, valuesAt, bitsAt, outcome₅, valuesIn₅}
@@ -45,9 +45,9 @@ module _ (five seven row : List ℕ) where
     seven-refused x f = handed x (rw (e, f))
 
     module _ (ws : List Value) (f : outcome₇ (valuesAt five) (bitsAt five) seven ≡ read ws) where
-      pub row-refused : (length row ≡ valuesAt five → ⊥) → Unpacks five seven row (Refused (record { number = 18; section = 0; place = 0 })) row
+      pub row-refused : (length row ≡ valuesAt five → ⊥) → Unpacks five seven row (Refused (refusal 18 0 0)) row
       unfolding unpackOutcome andThen firstOf
-      row-refused h = handed (record { number = 18; section = 0; place = 0 }) (rw (e, f, ne-eqb _ _ h))
+      row-refused h = handed (refusal 18 0 0) (rw (e, f, ne-eqb _ _ h))
 
       -- otherwise the row holds the numbers
       pub all-written : (n : ℕ) (later : List ℕ) → length row ≡ valuesAt five → n ≡ valuesAt five → later ≡ unpacked (bitsAt five) (valuesAt five) (drop 5 seven) → Unpacks five seven row (Written n) later

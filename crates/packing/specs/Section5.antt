@@ -7,7 +7,7 @@ use lib.ListN.{length}
 use lib.Dec.{ltb, eqb}
 use Rattle.octets.specs.Octets.{beAt}
 use Rattle.layout.specs.Fields.{Value, is, plain, Field, raw, rawSigned, ranged, after, badPlace, valuesOf}
-use Rattle.layout.specs.Outcomes.{Outcome, read, refusedBy, Reason, reason, badField, firstOf, headReasons}
+use Rattle.layout.specs.Outcomes.{Outcome, read, refusedBy, Reason, reason, badField, firstOf, headReasons, noRefusal}
 use Rattle.layout.specs.declared.Refusal.{Refusal}
 use Rattle.packing.specs.declared.Packing.{Packing}
 use Rattle.packing.specs.declared.Answer.{Answer}
@@ -64,4 +64,4 @@ told₅ (Refused x) = refusedBy x
 -- the refusal of an answer that is one; of none, zeros
 abbrev pub refusalIn₅ : Answer → Refusal
 refusalIn₅ (Refused x) = x
-refusalIn₅ (Read x) = record { number = 0; section = 0; place = 0 }
+refusalIn₅ (Read x) = noRefusal

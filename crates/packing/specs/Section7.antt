@@ -6,7 +6,7 @@ use mathlib.Core.Bool.{not}
 use lib.ListN.{length}
 use lib.Dec.{eqb}
 use Rattle.layout.specs.Fields.{Value, plain, Field, raw, shown, after, valuesOf}
-use Rattle.layout.specs.Outcomes.{Outcome, read, refusedBy, Reason, reason, firstOf, headReasons}
+use Rattle.layout.specs.Outcomes.{Outcome, read, refusedBy, Reason, reason, firstOf, headReasons, noRefusal}
 use Rattle.layout.specs.declared.Refusal.{Refusal}
 use Rattle.packing.specs.declared.DataSection.{DataSection}
 use Rattle.packing.specs.declared.DataAnswer.{DataAnswer}
@@ -39,4 +39,4 @@ told₇ (Refused x) = refusedBy x
 -- the refusal of an answer that is one; of none, zeros
 abbrev pub refusalIn₇ : DataAnswer → Refusal
 refusalIn₇ (Refused x) = x
-refusalIn₇ (Read x) = record { number = 0; section = 0; place = 0 }
+refusalIn₇ (Read x) = noRefusal

@@ -6,7 +6,7 @@ use mathlib.Core.List.{List, _++_}
 use lib.ListN.{drop, getD}
 use lib.IntN.{natAbs}
 use Rattle.layout.specs.Fields.{Value, none, missing, is, which, wholeIn, naturalIn}
-use Rattle.layout.specs.Outcomes.{Outcome, refused, read}
+use Rattle.layout.specs.Outcomes.{Outcome, refused, read, refusal}
 use Rattle.layout.specs.Time.{timeIn}
 use Rattle.layout.proofs.Untold.{to32, back32, toSigned, backSigned, toTime, told-back}
 use Rattle.product.specs.Blocks.{parameterIn, processIn, forecastIn, scaledIn, surfaceIn, ensembleIn, clusterIn, probabilityIn, aerosolIn, endIn, intervalIn}
@@ -228,7 +228,7 @@ product-back x =
     }
 
 untold : Outcome → Answer
-untold (refused n s p) = Refused (record { number = n; section = s; place = p })
+untold (refused n s p) = Refused (refusal n s p)
 untold (read vs) = Read (toProduct vs)
 
 back : (a : Answer) → untold (told a) ≡ a

@@ -8,7 +8,7 @@ use lib.ListN.{length}
 use lib.Dec.{ltb, eqb}
 use Rattle.octets.specs.Octets.{beAt}
 use Rattle.layout.specs.Fields.{Value, which, plain, Field, lacking, tag, shown, after, badPlace, valuesOf}
-use Rattle.layout.specs.Outcomes.{Outcome, refused, read, refusedBy, Reason, reason, badField, firstOf, headReasons}
+use Rattle.layout.specs.Outcomes.{Outcome, refused, read, refusedBy, Reason, reason, badField, firstOf, headReasons, noRefusal}
 use Rattle.layout.specs.declared.Refusal.{Refusal}
 use Rattle.product.specs.Blocks.{head, parameter, parameterIn, processIn, forecastIn, surfaceIn, common, ensemble, ensembleIn, cluster, clusterIn, probability, probabilityIn, aerosol, aerosolIn, interval, intervalIn}
 use Rattle.product.specs.declared.PartKind.{PartKind}
@@ -210,4 +210,4 @@ told (Refused x) = refusedBy x
 -- the refusal of an answer that is one; of none, zeros
 abbrev pub refusalIn : Answer → Refusal
 refusalIn (Refused x) = x
-refusalIn (Read x) = record { number = 0; section = 0; place = 0 }
+refusalIn (Read x) = noRefusal

@@ -8,6 +8,7 @@ use mathlib.Core.List.{List}
 use lib.Dec.{ltb, eqb}
 use lib.ListN.{length}
 use borrow.Author.Tests.{le-ltb, ltb-false}
+use Rattle.layout.specs.Outcomes.{refusal}
 use Rattle.shelf.specs.declared.Shelf.{Shelf}
 use Rattle.queue.specs.Queues.{cutOf, recordsFiled, fromStart, queueRefusal, refusedQueue, acceptedQueue, queueFiled}
 use Rattle.queue.specs.declared.Progress.{Progress}
@@ -25,7 +26,7 @@ files q s p e = by-length (ltb 65536 (length q)) refl (cutOf q .whole) refl e
   where
     refused-files : (number : ℕ) → refusedQueue s number ≡ acceptedQueue p → Files q s p
     refused-files number e =
-        let answers : refusedAll (record { number = number; section = 0; place = 0 }) ≡ filedAll (p .counts) = ap (λ (x : QueueFiled). x .answer) e in
+        let answers : refusedAll (refusal number 0 0) ≡ filedAll (p .counts) = ap (λ (x : QueueFiled). x .answer) e in
         let z : _≡_ {A = ℕ} 0 1 = cc in absurd (omega arith)
 
     by-length : (t : Bool) → ltb 65536 (length q) ≡ t → (w : Bool) → cutOf q .whole ≡ w

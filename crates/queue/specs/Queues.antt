@@ -6,6 +6,7 @@ use mathlib.Core.List.{List, [], _∷_}
 use mathlib.Core.Bool.{Bool, true, false, cond}
 use lib.Dec.{ltb, eqb}
 use lib.ListN.{length, take, drop}
+use Rattle.layout.specs.Outcomes.{refusal}
 use Rattle.shelf.specs.declared.Shelf.{Shelf}
 use Rattle.filing.specs.Filing.{Filing, refusedFiling, filingOf, filedBy}
 use Rattle.filing.specs.declared.Issue.{Issue}
@@ -113,7 +114,7 @@ unfoldable pub queueRefusal : List ℕ → ℕ
 queueRefusal q = cond (ltb 65536 (length q)) 2 (cond (cutOf q .whole) 0 19)
 
 abbrev pub refusedQueue : Shelf → ℕ → QueueFiled
-refusedQueue shelf number = record { shelf = shelf; answer = refusedAll (record { number = number; section = 0; place = 0 }) }
+refusedQueue shelf number = record { shelf = shelf; answer = refusedAll (refusal number 0 0) }
 
 abbrev pub acceptedQueue : Progress → QueueFiled
 acceptedQueue p = record { shelf = p .shelf; answer = filedAll (p .counts) }

@@ -16,6 +16,7 @@ use mir.Val.{toZ}
 use mir.ValLaws.{toZ-pos}
 use Rattle.octets.specs.Octets.{beAt, allOnes}
 use Rattle.layout.specs.Fields.{none, missing, is, which, Meaning, unsigned, signed, orMissing, means, Field, held, said, shown, placed, valuesOf}
+use Rattle.layout.proofs.Outcomes.{either}
 use Rattle.layout.proofs.Ranges.{both-hold}
 use Rattle.record.specs.Records.{inRow, numbersIn, withCount}
 use Rattle.record.specs.Letters.{Kind, kindOf, numberOf, numbersBy}
@@ -23,19 +24,16 @@ use Rattle.record.specs.Letters.{Kind, kindOf, numberOf, numbersBy}
 pub octets-small : (letter : ℕ) → kindOf letter .octets ≤ 4
 unfolding kindOf
 octets-small letter =
-    by (eqb letter 49) _ _ (omega arith)
-    (by (eqb letter 50) _ _ (omega arith)
-    (by (eqb letter 52) _ _ (omega arith)
-    (by (eqb letter 98) _ _ (omega arith)
-    (by (eqb letter 100) _ _ (omega arith)
-    (by (eqb letter 65) _ _ (omega arith)
-    (by (eqb letter 68) _ _ (omega arith)
-    (by (eqb letter 81) _ _ (omega arith)
-    (by (eqb letter 82) _ _ (omega arith) (omega arith)))))))))
-  where
-    by : (t : Bool) (a b : Kind) → a .octets ≤ 4 → b .octets ≤ 4 → cond t a b .octets ≤ 4
-    by true a b p q = p
-    by false a b p q = q
+    let P : Kind → Type 0 = λ k. k .octets ≤ 4 in
+    either P (eqb letter 49) (omega arith)
+    (either P (eqb letter 50) (omega arith)
+    (either P (eqb letter 52) (omega arith)
+    (either P (eqb letter 98) (omega arith)
+    (either P (eqb letter 100) (omega arith)
+    (either P (eqb letter 65) (omega arith)
+    (either P (eqb letter 68) (omega arith)
+    (either P (eqb letter 81) (omega arith)
+    (either P (eqb letter 82) (omega arith) (omega arith)))))))))
 
 -- ---- spelling
 

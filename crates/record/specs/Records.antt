@@ -9,7 +9,7 @@ use lib.IntN.{ℤ, pos, negsuc}
 use lib.ListN.{length}
 use Rattle.octets.specs.Octets.{beAt}
 use Rattle.layout.specs.Fields.{Value, none, missing, is, which, plain}
-use Rattle.layout.specs.Outcomes.{Outcome, refused, read, firstOf, headReasons}
+use Rattle.layout.specs.Outcomes.{Outcome, refused, read, firstOf, headReasons, refusal, noRefusal}
 use Rattle.layout.specs.declared.Refusal.{Refusal}
 use Rattle.identification.specs.Section1.{outcome₁}
 use Rattle.grid.specs.Section3.{outcome₃}
@@ -54,14 +54,12 @@ sectionOutcome section s =
 
 -- ---- what is answered
 
--- number, section and place; zeros for none
-abbrev pub refusal : ℕ → ℕ → ℕ → Refusal
-refusal number section place = record { number = number; section = section; place = place }
-
 -- the section's own refusals, then 18 where there are fewer than 64 places; each leaves the row as it was
 unfoldable pub intoRow : Outcome → List ℤ → Done Refusal (List ℤ)
 intoRow (refused number section place) row = done (refusal number section place) row
-intoRow (read vs) row = cond (ltb (length row) 64) (done (refusal 18 0 0) row) (done (refusal 0 0 0) (withCount (numbersIn vs) row))
+intoRow (read vs) row = cond (ltb (length row) 64) (done (refusal 18 0 0) row) (done noRefusal (withCount (numbersIn vs) row))
+
+-- ---- for the demands: when a record is told
 
 -- the section's values, and 64 places for them
 abbrev pub AcceptedWithRoom : ℕ → List ℕ → List ℤ → Type 0
@@ -76,12 +74,8 @@ PutsRecord o row row′ = (vs : List Value) → o ≡ read vs → row′ ≡ wit
 -- the refusal that an outcome is; of none, zeros
 abbrev pub refusalOf : Outcome → Refusal
 refusalOf (refused number section place) = refusal number section place
-refusalOf (read vs) = refusal 0 0 0
+refusalOf (read vs) = noRefusal
 
 -- a refusal of no place; with number 0, zeros
 abbrev pub refusalNumbered : ℕ → ℕ → Refusal
-refusalNumbered number section = cond (eqb number 0) (refusal 0 0 0) (refusal number section 0)
-
--- the first of two, where zeros are none
-abbrev pub firstRefusal : Refusal → Refusal → Refusal
-firstRefusal a b = cond (eqb (a .number) 0) b a
+refusalNumbered number section = cond (eqb number 0) noRefusal (refusal number section 0)

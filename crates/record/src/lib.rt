@@ -2,17 +2,15 @@
 //   1 2 4  unsigned, of so many octets     Q R T  the same, or missing
 //   b d    signed, of 2 and 4 octets       A D    signed or missing, of 1 and 4
 ghost use mathlib.Core.Path.{_≡_};
-ghost use mathlib.Core.Bool.{cond};
 ghost use mathlib.Core.List.{[], _∷_, _++_};
 ghost use Prim.Native.Nat.{_<_, _≤_};
-ghost use lib.Dec.{ltb};
 ghost use lib.Seq.{sets};
 ghost use Rattle.layout.specs.Missing.{in32, inSigned};
 ghost use Rattle.identification.specs.Section1.{outcome₁};
 ghost use Rattle.grid.specs.Section3.{outcome₃};
 ghost use Rattle.product.specs.Section4.{outcome₄};
 ghost use Rattle.record.specs.Lent.{done};
-ghost use Rattle.record.specs.Records.{sectionOutcome, intoRow, refusalOf, refusalNumbered, firstRefusal, withCount, PutsRecord};
+ghost use Rattle.record.specs.Records.{sectionOutcome, intoRow, refusalOf, refusalNumbered, withCount, PutsRecord};
 ghost use Rattle.record.specs.Letters.{kindOf, numberOf, numberBy, numbersBy};
 use layout::I32OrMissing;
 use layout::Refusal;
@@ -25,34 +23,15 @@ const MISSING: i64 = -9223372036854775808;
 pub fn read_into(section: u8, s: &[u8], values: &mut [i64]) -> Refusal
     ensures { λ r. ⌜ done r (now (values .exit)) ≡ intoRow (sectionOutcome section (now (s .entry))) (now (values .entry)) ⌝ }
 {
-    let own = refusal(section, s);
-    let room = no_room(values.len());
-    let refused = first_of(own, room);
+    let refused = refusal(section, s);
     if refused.number != 0 {
         return refused;
     }
-    put_record(section, s, values);
-    refused
-}
-
-// The first of two refusals, where zeros are none.
-fn first_of(a: Refusal, b: Refusal) -> Refusal
-    ensures { λ r. ⌜ r ≡ firstRefusal a b ⌝ }
-{
-    if a.number != 0 {
-        return a;
-    }
-    b
-}
-
-// 18 where there are fewer than 64 places.
-fn no_room(places: usize) -> Refusal
-    ensures { λ r. ⌜ r ≡ refusalNumbered (cond (ltb places 64) 18 0) 0 ⌝ }
-{
-    if places < 64 {
+    if values.len() < 64 {
         return numbered(18, 0);
     }
-    numbered(0, 0)
+    put_record(section, s, values);
+    refused
 }
 
 // The refusal of a section, or zeros. Section 7 alone knows 1 to 4 only.

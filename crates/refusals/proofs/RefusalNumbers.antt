@@ -10,7 +10,7 @@ use lib.Dec.{ltb, eqb}
 use borrow.Author.Tests.{eqb-true}
 use Rattle.octets.specs.Octets.{beAt}
 use Rattle.layout.specs.Fields.{Value, plain, after, valuesOf}
-use Rattle.layout.specs.Outcomes.{Outcome, refused, read, refusedBy, Reason, reason, firstOf, andThen, headReasons, firstNumber}
+use Rattle.layout.specs.Outcomes.{Outcome, refused, read, refusedBy, Reason, reason, firstOf, andThen, headReasons, firstNumber, refusal}
 use Rattle.layout.specs.declared.Refusal.{Refusal}
 use Rattle.identification.specs.Section1.{told as told₁, outcome₁, byTemplate as byTemplate₁, byNumber, asTemplate as asTemplate₁, templateReasons as templateReasons₁, values₁, lengthReasons as lengthReasons₁}
 use Rattle.identification.specs.declared.Template.{Template as Template₁}
@@ -91,7 +91,7 @@ wider large small x w p = record { listed = one-within large small (x .section) 
 -- ---- outcomes whose refusal, if they are one, is listed
 
 abbrev pub Refuses : List Row → Outcome → Type 0
-Refuses table (refused number section place) = Listed table (record { number = number; section = section; place = place })
+Refuses table (refused number section place) = Listed table (refusal number section place)
 Refuses table (read vs) = Unit {0}
 
 -- the refusal that an outcome is
@@ -99,7 +99,7 @@ refusal-listed : (table : List Row) (o : Outcome) (x : Refusal) → Refuses tabl
 refusal-listed table o x p e = subst (λ (o : Outcome). Refuses table o) (sym e) p
 
 pub refuses-wider : (large small : List Row) (o : Outcome) → within large small ≡ true → Refuses small o → Refuses large o
-refuses-wider large small (refused number section place) w p = wider large small (record { number = number; section = section; place = place }) w p
+refuses-wider large small (refused number section place) w p = wider large small (refusal number section place) w p
 refuses-wider large small (read vs) w p = tt
 
 -- each reason has a number of the table, and a place of a section's octet if it is 8, and else 0
@@ -242,7 +242,7 @@ unpacking-refuses five seven row x e = refusal-listed unpackTable (unpackOutcome
 -- ---- a field
 
 abbrev RefusesField : FieldOutcome → Type 0
-RefusesField (refusedField number section place) = Listed fieldTable (record { number = number; section = section; place = place })
+RefusesField (refusedField number section place) = Listed fieldTable (refusal number section place)
 RefusesField (readField one three four five) = Unit {0}
 
 onward-refuses : (o : Outcome) (next : List Value → FieldOutcome) → Refuses fieldTable o → ((vs : List Value) → RefusesField (next vs)) → RefusesField (onward o next)
@@ -270,13 +270,13 @@ field-refuses s1 s3 s4 s5 s7 x e = subst (λ (o : FieldOutcome). RefusesField o)
 -- ---- filing, and a record of a queue
 
 abbrev RefusesFiling : List Row → Filing → Type 0
-RefusesFiling table (refusedFiling number section place) = Listed table (record { number = number; section = section; place = place })
+RefusesFiling table (refusedFiling number section place) = Listed table (refusal number section place)
 RefusesFiling table (accepted card) = Unit {0}
 
 of-field-refuses : (o : FieldOutcome) (issue : ℕ) (s4 : List ℕ) → RefusesField o → RefusesFiling filingTable (ofField o issue s4)
 unfolding ofField
 of-field-refuses (refusedField number section place) issue s4 p =
-    wider filingTable fieldTable (record { number = number; section = section; place = place }) refl p
+    wider filingTable fieldTable (refusal number section place) refl p
 of-field-refuses (readField one three four five) issue s4 p =
     by-test (λ (t : Bool). RefusesFiling filingTable (cond t (refusedFiling 17 1 0) (accepted (cardOf one issue s4)))) (foreignCalendar one)
     (λ h. record { listed = refl; placed = refl; within = none }) (λ h. tt)
@@ -288,7 +288,7 @@ refuses-filing slot issue s1 s3 s4 s5 s7 =
     (λ h. record { listed = refl; placed = refl; within = none }) (λ h. of-field-refuses (fieldOutcome s1 s3 s4 s5 s7) (issueOf issue) s4 (refuses-field s1 s3 s4 s5 s7))
 
 of-record : (f : Filing) → RefusesFiling filingTable f → RefusesFiling recordTable f
-of-record (refusedFiling number section place) p = wider recordTable filingTable (record { number = number; section = section; place = place }) refl p
+of-record (refusedFiling number section place) p = wider recordTable filingTable (refusal number section place) refl p
 of-record (accepted card) p = tt
 
 body-refuses : (slot : ℕ) (issue : Issue) (s : List ℕ) (body : Body) → RefusesFiling recordTable (bodyFiling slot issue s body)

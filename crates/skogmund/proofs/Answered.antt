@@ -11,7 +11,7 @@ use lib.IntN.{ℤ}
 use lib.ListN.{length}
 use borrow.Author.Tests.{le-ltb, ltb-false, lt-ltb, ltb-true, le-leb, leb-true, eq-eqb, eqb-true, eqb-false}
 use Rattle.layout.specs.Fields.{Value}
-use Rattle.layout.specs.Outcomes.{Outcome, refused, read}
+use Rattle.layout.specs.Outcomes.{Outcome, refused, read, refusal}
 use Rattle.layout.specs.declared.Refusal.{Refusal}
 use Rattle.layout.proofs.Ranges.{both-hold}
 use Rattle.packing.specs.Unpacking.{unpackOutcome}
@@ -27,7 +27,7 @@ use Rattle.refusals.specs.Refusals.{Row, Listed, unpackTable, filingTable}
 use Rattle.refusals.proofs.RefusalNumbers.{unpack-refuses, filing-refuses}
 use Rattle.refusals.proofs.OneNumber.{Proper, positive, proper}
 use Rattle.record.specs.Lent.{Done, done, over}
-use Rattle.record.specs.Records.{refusal, withCount}
+use Rattle.record.specs.Records.{withCount}
 use Rattle.skogmund.specs.Entries.{code, codeOf, coded, doneBoth, ifRoom, rowUnpacked, listingTold}
 use Rattle.skogmund.specs.Parts.{partTold}
 use Rattle.skogmund.specs.Shelves.{isShelf, emptied, joined, keptIn, Room, fieldKept, filedField, Files, queueKept, filedQueue, slotNumbers, slotShown}
@@ -59,8 +59,8 @@ pub room-left : {B : Type 0} (t : Bool) (after before : B) → ifRoom t after be
 room-left true after before e = (refl, refl)
 room-left false after before e = absurd (omega (arith, e))
 
-by-room : {B : Type 0} {R : Type 0} (t : Bool) (after before : B) → (t ≡ true) ↔ R → (ifRoom t after before .answer ≡ 0) ↔ R
-by-room t after before r = ((λ e. r .0 (room-left t after before e .0)), (λ x. ap (λ (u : Bool). ifRoom u after before .answer) (r .1 x)))
+room-exactly : {B : Type 0} {R : Type 0} (t : Bool) (after before : B) → (t ≡ true) ↔ R → (ifRoom t after before .answer ≡ 0) ↔ R
+room-exactly t after before r = ((λ e. r .0 (room-left t after before e .0)), (λ x. ap (λ (u : Bool). ifRoom u after before .answer) (r .1 x)))
 
 both-exactly : {a b : Bool} {A B : Type 0} → (a ≡ true) ↔ A → (b ≡ true) ↔ B → ((a && b) ≡ true) ↔ (A × B)
 both-exactly {a} {b} p q = ((λ e. let x = both-hold a b e in (p .0 (x .0), q .0 (x .1))), (λ x. rw (p .1 (x .0), q .1 (x .1))))
@@ -73,19 +73,19 @@ many-exactly n l = (leb-true _ _, le-leb _ _)
 
 pub part-exactly-when : (part : ℕ) (s : List ℕ) (k : ℕ) (places : List ℕ) → (partTold part s k places .answer ≡ 0) ↔ (2 ≤ length places)
 unfolding partTold
-part-exactly-when part s k places = by-room _ _ _ (many-exactly 2 places)
+part-exactly-when part s k places = room-exactly _ _ _ (many-exactly 2 places)
 
 pub listed-exactly-when : (q text places : List ℕ) → (listingTold q text places .answer ≡ 0) ↔ ((length (listing q) ≤ length text) × (0 < length places))
 unfolding listingTold
-listed-exactly-when q text places = by-room _ _ _ (both-exactly (many-exactly (length (listing q)) text) (ltb-true _ _, lt-ltb _ _))
+listed-exactly-when q text places = room-exactly _ _ _ (both-exactly (many-exactly (length (listing q)) text) (ltb-true _ _, lt-ltb _ _))
 
 pub emptied-exactly-when : (s : List ℕ) → (emptied s .answer ≡ 0) ↔ (length s ≡ 2624)
 unfolding emptied
-emptied-exactly-when s = by-room _ _ _ (shelf-exactly s)
+emptied-exactly-when s = room-exactly _ _ _ (shelf-exactly s)
 
 pub joined-exactly-when : (s other : List ℕ) → (joined s other .answer ≡ 0) ↔ ((length s ≡ 2624) × (length other ≡ 2624))
 unfolding joined
-joined-exactly-when s other = by-room _ _ _ (both-exactly (shelf-exactly s) (shelf-exactly other))
+joined-exactly-when s other = room-exactly _ _ _ (both-exactly (shelf-exactly s) (shelf-exactly other))
 
 pub shown-exactly-when : (s : List ℕ) (slot : ℕ) (values : List ℤ) → (slotShown s slot values .answer ≡ 0) ↔ ((slot < 64) × (length s ≡ 2624) × (64 ≤ length values))
 unfolding slotShown
@@ -96,14 +96,14 @@ shown-exactly-when s slot values = by (ltb 63 slot) refl
     by true f = let large = ltb-true 63 slot f in ((λ e. absurd (omega (arith, e))), (λ h. absurd (omega (arith, large, h .0))))
     by false f =
         let small = ltb-false 63 slot f in
-        let r = by-room _ _ _ (both-exactly (shelf-exactly s) (many-exactly 64 values)) in
+        let r = room-exactly _ _ _ (both-exactly (shelf-exactly s) (many-exactly 64 values)) in
         ((λ e. let x = r .0 e in (omega (arith, small), x .0, x .1)), (λ h. r .1 (h .1, h .2)))
 
 -- ---- filing
 
 keep-exactly : (s places : List ℕ) (after : Shelf) (ns : List ℕ) → (keptIn s places after ns .answer ≡ 0) ↔ Room s places (length ns)
 unfolding keptIn
-keep-exactly s places after ns = by-room _ _ _ (both-exactly (shelf-exactly s) (many-exactly (length ns) places))
+keep-exactly s places after ns = room-exactly _ _ _ (both-exactly (shelf-exactly s) (many-exactly (length ns) places))
 
 keep-left : (s places : List ℕ) (after : Shelf) (ns : List ℕ) → keptIn s places after ns .answer ≡ 0 → keptIn s places after ns .lent .0 ≡ octetsOf after
 unfolding keptIn

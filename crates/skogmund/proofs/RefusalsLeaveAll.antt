@@ -2,12 +2,13 @@
 -- Assumes nothing.
 use Prim.Native.Nat.{ℕ}
 use mathlib.Core.Path.{refl, ap}
-use mathlib.Core.Bool.{Bool, true, false, cond, _&&_}
+use mathlib.Core.Bool.{Bool, _&&_}
 use mathlib.Core.List.{List, [], _∷_}
 use lib.Dec.{ltb, leb}
 use lib.IntN.{ℤ}
 use lib.ListN.{length, drop}
 use Rattle.layout.specs.Outcomes.{Outcome, refused, read}
+use Rattle.layout.proofs.Outcomes.{either}
 use Rattle.packing.specs.Packed.{unpacked}
 use Rattle.packing.specs.Section5.{valuesAt, bitsAt}
 use Rattle.packing.specs.Unpacking.{unpackOutcome, rowBy, rowAfter}
@@ -20,21 +21,15 @@ use Rattle.queue.specs.Records.{issueFrom}
 use Rattle.queue.specs.declared.QueueAnswer.{QueueAnswer}
 use Rattle.queue.specs.declared.QueueAnswer.the-variants.{Filed as filedAll, Refused as refusedAll}
 use Rattle.queue.specs.Queues.{queueFiled}
-use Rattle.record.specs.Lent.{Done, done}
+use Rattle.record.specs.Lent.{done}
 use Rattle.record.specs.Records.{sectionOutcome}
 use Rattle.record.proofs.RecordRead.{row-stays}
 use Rattle.skogmund.specs.Entries.{codeOf, coded, ifRoom, Untouched, rowUnpacked, recordTold, fits, listingTold}
 use Rattle.skogmund.specs.Parts.{partTold}
 use Rattle.skogmund.specs.Shelves.{isShelf, emptied, joined, keptIn, fieldKept, filedField, queueKept, filedQueue, slotShown}
 
--- ---- two laws: of a choice, and of room
-
-either : {B : Type 0} (t : Bool) {before : B} {x y : Done ℕ B} → Untouched before x → Untouched before y → Untouched before (cond t x y)
-either true p q = p
-either false p q = q
-
-by-room : {B : Type 0} (t : Bool) (after before : B) → Untouched before (ifRoom t after before)
-by-room t after before = either t (λ h. absurd (h refl)) (λ h. refl)
+room-leaves : {B : Type 0} (t : Bool) (after before : B) → Untouched before (ifRoom t after before)
+room-leaves t after before = either (Untouched before) t (λ h. absurd (h refl)) (λ h. refl)
 
 -- ---- sections and listings
 
@@ -52,35 +47,35 @@ read-leaves section s row h = row-stays (sectionOutcome section s) row (λ e. h 
 
 pub part-leaves : (part : ℕ) (s : List ℕ) (k : ℕ) (places : List ℕ) → Untouched places (partTold part s k places)
 unfolding partTold
-part-leaves part s k places = by-room (leb 2 (length places)) _ places
+part-leaves part s k places = room-leaves (leb 2 (length places)) _ places
 
 pub list-leaves : (q text places : List ℕ) → Untouched (text, places) (listingTold q text places)
 unfolding listingTold
-list-leaves q text places = by-room (fits q text places) _ (text, places)
+list-leaves q text places = room-leaves (fits q text places) _ (text, places)
 
 -- ---- shelves as octets
 
 pub empty-leaves : (s : List ℕ) → Untouched s (emptied s)
 unfolding emptied
-empty-leaves s = by-room (isShelf s) _ s
+empty-leaves s = room-leaves (isShelf s) _ s
 
 pub join-leaves : (s other : List ℕ) → Untouched s (joined s other)
 unfolding joined
-join-leaves s other = by-room (isShelf s && isShelf other) _ s
+join-leaves s other = room-leaves (isShelf s && isShelf other) _ s
 
 pub slot-leaves : (s : List ℕ) (slot : ℕ) (values : List ℤ) → Untouched values (slotShown s slot values)
 unfolding slotShown
-slot-leaves s slot values = either (ltb 63 slot) (λ h. refl) (by-room (isShelf s && leb 64 (length values)) _ values)
+slot-leaves s slot values = either (Untouched values) (ltb 63 slot) (λ h. refl) (room-leaves (isShelf s && leb 64 (length values)) _ values)
 
 keep-leaves : (s places : List ℕ) (after : Shelf) (ns : List ℕ) → Untouched (s, places) (keptIn s places after ns)
 unfolding keptIn
-keep-leaves s places after ns = by-room (isShelf s && leb (length ns) (length places)) _ (s, places)
+keep-leaves s places after ns = room-leaves (isShelf s && leb (length ns) (length places)) _ (s, places)
 
 pub field-leaves : (s : List ℕ) (slot stored : ℕ) (s1 s3 s4 s5 s7 places : List ℕ) → Untouched (s, places) (filedField s slot stored s1 s3 s4 s5 s7 places)
 unfolding filedField fieldKept
 field-leaves s slot stored s1 s3 s4 s5 s7 places =
     let made = filedOf (shelfIn s) slot (issueFrom stored) s1 s3 s4 s5 s7 in
-    either (ltb 4294967296 stored) (λ h. refl) (by (made .shelf) (made .answer))
+    either (Untouched (s, places)) (ltb 4294967296 stored) (λ h. refl) (by (made .shelf) (made .answer))
   where
     by : (after : Shelf) (x : Answer) → Untouched (s, places) (fieldKept s places after x)
     by after (refusedField x) h = refl

@@ -39,10 +39,6 @@ doneBoth answer one other = done answer (one, other)
 abbrev pub ifRoom : {B : Type 0} → Bool → B → B → Done ℕ B
 ifRoom room after before = cond room (done 0 after) (done noRoom before)
 
--- a refusal leaves what was lent as it was
-abbrev pub Untouched : {B : Type 0} → B → Done ℕ B → Type 0
-Untouched before x = (x .answer ≡ 0 → ⊥) → x .lent ≡ before
-
 -- ---- sections
 
 unfoldable pub rowUnpacked : List ℕ → List ℕ → List ℕ → Done ℕ (List ℕ)
@@ -63,3 +59,9 @@ fits q text places = leb (length (listing q)) (length text) && ltb 0 (length pla
 
 unfoldable pub listingTold : List ℕ → List ℕ → List ℕ → Done ℕ (List ℕ × List ℕ)
 listingTold q text places = ifRoom (fits q text places) (over text (listing q), over places (length (listing q) ∷ [])) (text, places)
+
+-- ---- for the demands
+
+-- a refusal leaves what was lent as it was
+abbrev pub Untouched : {B : Type 0} → B → Done ℕ B → Type 0
+Untouched before x = (x .answer ≡ 0 → ⊥) → x .lent ≡ before

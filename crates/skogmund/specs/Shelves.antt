@@ -42,10 +42,6 @@ joined s other = ifRoom (isShelf s && isShelf other) (joinOctets s other) s
 unfoldable pub keptIn : List ℕ → List ℕ → Shelf → List ℕ → Done ℕ (List ℕ × List ℕ)
 keptIn s places after ns = ifRoom (isShelf s && leb (length ns) (length places)) (octetsOf after, over places ns) (s, places)
 
--- such room, as a fact
-abbrev pub Room : List ℕ → List ℕ → ℕ → Type 0
-Room s places n = (length s ≡ 2624) × (n ≤ length places)
-
 -- a field is refused, or whether its slot changed is kept with the shelf
 unfoldable pub fieldKept : List ℕ → List ℕ → Shelf → Answer → Done ℕ (List ℕ × List ℕ)
 fieldKept s places after (refusedField x) = doneBoth (codeOf x) s places
@@ -59,11 +55,6 @@ filedField s slot stored s1 s3 s4 s5 s7 places =
     (fieldKept s places
     (filedOf (shelfIn s) slot (issueFrom stored) s1 s3 s4 s5 s7 .shelf)
     (filedOf (shelfIn s) slot (issueFrom stored) s1 s3 s4 s5 s7 .answer))
-
--- an issue, a field that is accepted, and room
-abbrev pub Files : List ℕ → ℕ → ℕ → List ℕ → List ℕ → List ℕ → List ℕ → List ℕ → List ℕ → Type 0
-Files s slot stored s1 s3 s4 s5 s7 places =
-    (stored ≤ 4294967296) × ((card : Card) × (filingOf slot (issueFrom stored) s1 s3 s4 s5 s7 ≡ accepted card)) × Room s places 1
 
 -- a queue is refused, or its three counts are kept with the shelf
 unfoldable pub queueKept : List ℕ → List ℕ → Shelf → QueueAnswer → Done ℕ (List ℕ × List ℕ)
@@ -96,3 +87,14 @@ unfoldable pub slotShown : List ℕ → ℕ → List ℤ → Done ℕ (List ℤ)
 slotShown s slot values =
     cond (ltb 63 slot) (done (code 16 0 0) values)
     (ifRoom (isShelf s && leb 64 (length values)) (withCount (slotNumbers (slotAt (shelfIn s) slot)) values) values)
+
+-- ---- for the demands: when something is filed
+
+-- room for the shelf and for so many numbers
+abbrev pub Room : List ℕ → List ℕ → ℕ → Type 0
+Room s places n = (length s ≡ 2624) × (n ≤ length places)
+
+-- an issue, a field that is accepted, and room
+abbrev pub Files : List ℕ → ℕ → ℕ → List ℕ → List ℕ → List ℕ → List ℕ → List ℕ → List ℕ → Type 0
+Files s slot stored s1 s3 s4 s5 s7 places =
+    (stored ≤ 4294967296) × ((card : Card) × (filingOf slot (issueFrom stored) s1 s3 s4 s5 s7 ≡ accepted card)) × Room s places 1

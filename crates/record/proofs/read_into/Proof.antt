@@ -1,71 +1,61 @@
 -- `read_into`: the section's refusal, then 18, then the row.
 -- Assumes nothing.
 use borrow.Author.Needs.{needs}
-use borrow.Author.Tests.{ne-eqb}
-use mathlib.Core.Path.{_≡_, refl, ap, ap₂, sym, _∙_}
-use mathlib.Core.Bool.{Bool, true, false, cond}
+use borrow.Author.Tests.{lt-ltb}
+use Prim.Native.Nat.{_<_}
+use mathlib.Core.Path.{_≡_, ap, ap₂, sym, _∙_}
 use mathlib.Core.List.{List}
-use lib.Dec.{ltb}
 use lib.IntN.{ℤ}
 use lib.ListN.{length}
 use denote.Ref.{now}
-use Rattle.layout.specs.Outcomes.{Outcome, refused, read}
+use Rattle.layout.specs.Fields.{Value}
+use Rattle.layout.specs.Outcomes.{Outcome, refused, read, refusal}
 use Rattle.layout.specs.declared.Refusal.{Refusal}
-use Rattle.refusals.proofs.OneNumber.{Proper}
-use Rattle.record.specs.Lent.{Done, done}
-use Rattle.record.specs.Records.{sectionOutcome, refusal, intoRow, AcceptedWithRoom, refusalOf, refusalNumbered, firstRefusal}
-use Rattle.record.proofs.RecordRead.{all-proper, row-stays, none-refused, record-put}
+use Rattle.record.specs.Lent.{done}
+use Rattle.record.specs.Records.{sectionOutcome, intoRow, refusalOf}
+use Rattle.record.proofs.RecordRead.{all-proper, accepting, record-put}
 use Rattle.record.proofs.read_into.Statement.{statement}
 use Rattle.record.proofs.read_into.Tie as tie
 
-first-is : (o : Outcome) (row : List ℤ) → Proper o → firstRefusal (refusalOf o) (refusalNumbered (cond (ltb (length row) 64) 18 0) 0) ≡ intoRow o row .answer
+-- a number that is not 0 is a refusal's, and leaves the row
+refusing : (o : Outcome) (row : List ℤ) (r : Refusal) → r ≡ refusalOf o → (r .number ≡ 0 → ⊥) → done r row ≡ intoRow o row
 unfolding intoRow
-first-is (refused number section place) row p = rw (ne-eqb _ _ (p .0))
-first-is (read vs) row p = by (ltb (length row) 64) _
-  where
-    by : (t : Bool) (row′ : List ℤ) → refusalNumbered (cond t 18 0) 0 ≡ cond t (done (refusal 18 0 0) row) (done (refusal 0 0 0) row′) .answer
-    by true row′ = refl
-    by false row′ = refl
+refusing (refused number section place) row r e h = ap (λ (x : Refusal). done x row) e
+refusing (read vs) row r e h = absurd (h (ap (λ (x : Refusal). x .number) e))
 
-abbrev start-of : tie.After-first-of → tie.Start
-start-of c = c .before .before .before .before
+no-room : (o : Outcome) (row : List ℤ) (vs : List Value) (r : Refusal) → o ≡ read vs → length row < 64 → r ≡ refusal 18 0 0 → done r row ≡ intoRow o row
+unfolding intoRow
+no-room o row vs r e h f = rw (e, lt-ltb _ _ h) (ap (λ (x : Refusal). done x row) f)
 
-abbrev outcome-of : tie.After-first-of → Outcome
-outcome-of c = sectionOutcome (start-of c .args .section) (now (start-of c .args .s))
-
-abbrev row-of : tie.After-first-of → List ℤ
-row-of c = now (start-of c .args .values)
-
-answers : (c : tie.After-first-of) → c .first-of .result ≡ intoRow (outcome-of c) (row-of c) .answer
-answers c =
-    c .first-of .ensures
-    ∙ ap₂ firstRefusal (c .before .before .refusal .ensures) (c .before .no-room .ensures)
-    ∙ first-is (outcome-of c) (row-of c) (all-proper (start-of c .args .section) (now (start-of c .args .s)))
-
-accepted-by : (c : tie.Else1) → AcceptedWithRoom (start-of (c .before .before) .args .section) (now (start-of (c .before .before) .args .s)) (row-of (c .before .before))
-accepted-by c = none-refused _ _ _ (sym (ap (λ (x : Refusal). x .number) (answers (c .before .before))) ∙ c .if1 .left)
+-- where the number is 0, the section is accepted
+accepted-by : (c : tie.Else1) → (vs : List Value) × (sectionOutcome (c .before .before .before .before .args .section) (now (c .before .before .before .before .args .s)) ≡ read vs)
+accepted-by c =
+    let a = c .before .before .before .before .args in
+    accepting _ (all-proper (a .section) (now (a .s))) (sym (ap (λ (x : Refusal). x .number) (c .before .before .refusal .ensures)) ∙ c .if1 .left)
 
 returns : tie.Need-returns
-returns c =
-    let f = c .before .before in
-    let e = answers f in
-    ap₂ done e (sym (row-stays (outcome-of f) (row-of f) (λ z. c .if1 .taken (ap (λ (x : Refusal). x .number) (e ∙ z)))))
+returns c = refusing _ _ _ (c .before .before .refusal .ensures) (c .if1 .taken)
 
 returns-2 : tie.Need-returns-2
 returns-2 c =
-    let f = c .before .before .before .before .before in
-    let v = accepted-by (c .before .before .before) in
-    let put = record-put (outcome-of f) (row-of f) (v .0 .0) (v .0 .1) (v .1) in
-    ap₂ done (answers f ∙ ap (λ (x : Done Refusal (List ℤ)). x .answer) put) (c .before .put-record .ensures (v .0 .0) (v .0 .1)) ∙ sym put
+    let v = accepted-by (c .before .before) in
+    no-room _ _ (v .0) _ (v .1) (c .before .if2 .taken) (c .numbered .ensures)
+
+returns-3 : tie.Need-returns-3
+returns-3 c =
+    let else2 = c .before .before .before in
+    let v = accepted-by (else2 .before) in
+    ap₂ done (else2 .before .before .before .refusal .ensures ∙ ap refusalOf (v .1)) (c .before .put-record .ensures (v .0) (v .1))
+    ∙ sym (record-put _ _ (v .0) (v .1) (else2 .if2 .left))
 
 pub read-into-spec : {M : Type 1} → statement M
 read-into-spec =
     tie.close
     (tie.spec
     (λ c κs. search needs)
-    (λ c κs. search needs)
-    (λ c κs. search needs)
     returns
-    (λ c κs. accepted-by (c .before) .1)
+    (λ c κs. search needs)
+    returns-2
+    (λ c κs. search needs)
     (λ c. search needs)
-    returns-2)
+    returns-3)

@@ -9,7 +9,7 @@ use mathlib.Core.List.{List, [], _∷_}
 use lib.Dec.{eqb}
 use Rattle.octets.specs.Octets.{beAt}
 use Rattle.layout.specs.Fields.{plain}
-use Rattle.layout.specs.Outcomes.{refused, read, firstNumber, headReasons}
+use Rattle.layout.specs.Outcomes.{refused, read, firstNumber, headReasons, refusal, noRefusal}
 use Rattle.layout.specs.declared.Refusal.{Refusal}
 use Rattle.layout.proofs.Outcomes.{head-first}
 use Rattle.identification.specs.Section1.{told as told₁, refusalIn as refusalIn₁}
@@ -53,7 +53,7 @@ of₇ : (s : List ℕ) (n : ℕ) {r : Refusal} → n ≡ firstNumber (headReason
 unfolding outcome₇alone
 of₇ s n e f = f ∙ ap (λ (k : ℕ). refusalNumbered k 7) e ∙ sym (ap refusalOf (head-first 7 s _) ∙ by (eqb (firstNumber (headReasons 7 s)) 0))
   where
-    by : (t : Bool) → refusalOf (cond t (read (plain (beAt s 1 4) ∷ plain (beAt s 5 1) ∷ [])) (refused (firstNumber (headReasons 7 s)) 7 0)) ≡ cond t (record { number = 0; section = 0; place = 0 }) (record { number = firstNumber (headReasons 7 s); section = 7; place = 0 })
+    by : (t : Bool) → refusalOf (cond t (read (plain (beAt s 1 4) ∷ plain (beAt s 5 1) ∷ [])) (refused (firstNumber (headReasons 7 s)) 7 0)) ≡ cond t noRefusal (refusal (firstNumber (headReasons 7 s)) 7 0)
     by true = refl
     by false = refl
 
