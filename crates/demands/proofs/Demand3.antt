@@ -1,6 +1,6 @@
 -- Demand 3. The definitions in it: a card and the order of cards (`card/specs/Key.antt`), a shelf and joining two
 -- (`shelf/specs/Shelves.antt`), what a slot must hold (`Keeps`, `shelf/specs/History.antt`), filing a field (`filing/specs/Filing.antt`) and
--- a queue (`queue/specs/Queues.antt`), what the counts are (`Said` there, `queue/specs/Counting.antt`), and how a shelf came about
+-- a queue (`queue/specs/Queues.antt`), what the counts are (`queue/specs/Counting.antt`, by `Said` of `filing/specs/Filing.antt`), and how a shelf came about
 -- (`queue/specs/History.antt`). Of the entries for C: what they leave
 -- (`skogmund/specs/Shelves.antt`), and the octets of a history's shelf (`Leaves`, `demands/specs/Histories.antt`).
 -- Assumes nothing.

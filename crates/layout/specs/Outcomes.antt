@@ -22,6 +22,11 @@ refusal number section place = record { number = number; section = section; plac
 abbrev pub noRefusal : Refusal
 noRefusal = refusal 0 0 0
 
+-- the refusal that an outcome is; of none, zeros
+abbrev pub refusalOf : Outcome → Refusal
+refusalOf (refused number section place) = refusal number section place
+refusalOf (read vs) = noRefusal
+
 -- what a program's refusal says
 abbrev pub refusedBy : Refusal → Outcome
 refusedBy x = refused (x .number) (x .section) (x .place)

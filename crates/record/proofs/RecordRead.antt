@@ -12,7 +12,7 @@ use lib.ListN.{length}
 use borrow.Author.Tests.{eq-eqb, ne-eqb, eqb-true, eqb-false, le-ltb, ltb-false}
 use Rattle.octets.specs.Octets.{beAt}
 use Rattle.layout.specs.Fields.{Value, plain}
-use Rattle.layout.specs.Outcomes.{Outcome, refused, read, noRefusal, refusal}
+use Rattle.layout.specs.Outcomes.{Outcome, refused, read, noRefusal, refusal, refusalOf}
 use Rattle.layout.specs.declared.Refusal.{Refusal}
 use Rattle.layout.proofs.Outcomes.{either}
 use Rattle.identification.specs.Section1.{outcome₁}
@@ -24,7 +24,7 @@ use Rattle.refusals.proofs.RefusalNumbers.{Refuses, refuses-wider, head-refuses
 use Rattle.refusals.proofs.OneNumber.{Proper, positive, proper}
 use Rattle.record.specs.Lent.{done}
 use Rattle.record.specs.Refused.{ownNumbers, readTable}
-use Rattle.record.specs.Records.{numbersIn, withCount, outcome₇alone, sectionOutcome, intoRow, AcceptedWithRoom, refusalOf}
+use Rattle.record.specs.Records.{numbersIn, withCount, outcome₇alone, sectionOutcome, intoRow, AcceptedWithRoom}
 
 -- ---- a section's own refusals
 

@@ -71,11 +71,6 @@ AcceptedWithRoom section s row = ((vs : List Value) × (sectionOutcome section s
 abbrev pub PutsRecord : Outcome → List ℤ → List ℤ → Type 0
 PutsRecord o row row′ = (vs : List Value) → o ≡ read vs → row′ ≡ withCount (numbersIn vs) row
 
--- the refusal that an outcome is; of none, zeros
-abbrev pub refusalOf : Outcome → Refusal
-refusalOf (refused number section place) = refusal number section place
-refusalOf (read vs) = noRefusal
-
 -- a refusal of no place; with number 0, zeros
 abbrev pub refusalNumbered : ℕ → ℕ → Refusal
 refusalNumbered number section = cond (eqb number 0) noRefusal (refusal number section 0)

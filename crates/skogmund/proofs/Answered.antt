@@ -11,7 +11,7 @@ use lib.IntN.{ℤ}
 use lib.ListN.{length}
 use borrow.Author.Tests.{le-ltb, ltb-false, lt-ltb, ltb-true, le-leb, leb-true, eq-eqb, eqb-true, eqb-false}
 use Rattle.layout.specs.Fields.{Value}
-use Rattle.layout.specs.Outcomes.{Outcome, refused, read, refusal}
+use Rattle.layout.specs.Outcomes.{refused, read, refusal}
 use Rattle.layout.specs.declared.Refusal.{Refusal}
 use Rattle.layout.proofs.Ranges.{both-hold}
 use Rattle.packing.specs.Unpacking.{unpackOutcome}
@@ -25,8 +25,9 @@ use Rattle.queue.specs.Queues.{cutOf, recordsFiled, fromStart, queueRefusal, re
 use Rattle.report.specs.Texts.{listing}
 use Rattle.refusals.specs.Refusals.{Row, Listed, unpackTable, filingTable}
 use Rattle.refusals.proofs.RefusalNumbers.{unpack-refuses, filing-refuses}
-use Rattle.refusals.proofs.OneNumber.{Proper, positive, proper}
+use Rattle.refusals.proofs.OneNumber.{positive, proper}
 use Rattle.record.specs.Lent.{Done, done, over}
+use Rattle.record.proofs.RecordRead.{accepting}
 use Rattle.record.specs.Records.{withCount}
 use Rattle.skogmund.specs.Entries.{code, codeOf, coded, doneBoth, ifRoom, rowUnpacked, listingTold}
 use Rattle.skogmund.specs.Parts.{partTold}
@@ -41,16 +42,11 @@ taken-apart n s p n′ s′ p′ a b c d e = (omega (arith, e), omega (arith, e)
 pub listed-code : (table : List Row) (x : Refusal) → positive table ≡ true → Listed table x → codeOf x ≡ 0 → ⊥
 listed-code table x p h e = proper table (refused (x .number) (x .section) (x .place)) p h .0 (omega (arith, e))
 
--- 0 is no refusal's
-accepting : (o : Outcome) → Proper o → coded o ≡ 0 → (vs : List Value) × (o ≡ read vs)
-accepting (refused number section place) p e = absurd (p .0 (omega (arith, e)))
-accepting (read vs) p e = (vs, refl)
-
 pub unpacked-exactly-when : (five seven row : List ℕ) → (rowUnpacked five seven row .answer ≡ 0) ↔ ((vs : List Value) × (unpackOutcome five seven row ≡ read vs))
 unfolding rowUnpacked
 unpacked-exactly-when five seven row =
     let o = unpackOutcome five seven row in
-    ((λ e. accepting o (proper unpackTable o refl (unpack-refuses five seven row)) e), (λ t. ap coded (t .1)))
+    ((λ e. accepting o (proper unpackTable o refl (unpack-refuses five seven row)) (omega (arith, e))), (λ t. ap coded (t .1)))
 
 -- ---- it is 0 exactly where there is room
 

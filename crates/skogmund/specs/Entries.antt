@@ -8,7 +8,7 @@ use mathlib.Core.List.{List, [], _∷_}
 use lib.Dec.{ltb, leb}
 use lib.IntN.{ℤ}
 use lib.ListN.{length}
-use Rattle.layout.specs.Outcomes.{Outcome, refused, read}
+use Rattle.layout.specs.Outcomes.{Outcome, refusalOf}
 use Rattle.layout.specs.declared.Refusal.{Refusal}
 use Rattle.packing.specs.Unpacking.{unpackOutcome, rowAfter}
 use Rattle.report.specs.Texts.{listing}
@@ -22,10 +22,9 @@ code number section place = number * 2 ^ 40 + section * 2 ^ 32 + place
 abbrev pub codeOf : Refusal → ℕ
 codeOf x = code (x .number) (x .section) (x .place)
 
--- 0 where nothing is refused
+-- of an outcome: 0 where nothing is refused
 abbrev pub coded : Outcome → ℕ
-coded (refused number section place) = code number section place
-coded (read vs) = 0
+coded o = codeOf (refusalOf o)
 
 -- 18: a buffer of another length, or one with too few places
 abbrev pub noRoom : ℕ

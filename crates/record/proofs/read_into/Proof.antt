@@ -9,10 +9,10 @@ use lib.IntN.{ℤ}
 use lib.ListN.{length}
 use denote.Ref.{now}
 use Rattle.layout.specs.Fields.{Value}
-use Rattle.layout.specs.Outcomes.{Outcome, refused, read, refusal}
+use Rattle.layout.specs.Outcomes.{Outcome, refused, read, refusal, refusalOf}
 use Rattle.layout.specs.declared.Refusal.{Refusal}
 use Rattle.record.specs.Lent.{done}
-use Rattle.record.specs.Records.{sectionOutcome, intoRow, refusalOf}
+use Rattle.record.specs.Records.{sectionOutcome, intoRow}
 use Rattle.record.proofs.RecordRead.{all-proper, accepting, record-put}
 use Rattle.record.proofs.read_into.Statement.{statement}
 use Rattle.record.proofs.read_into.Tie as tie

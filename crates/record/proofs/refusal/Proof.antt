@@ -9,7 +9,7 @@ use mathlib.Core.List.{List, [], _∷_}
 use lib.Dec.{eqb}
 use Rattle.octets.specs.Octets.{beAt}
 use Rattle.layout.specs.Fields.{plain}
-use Rattle.layout.specs.Outcomes.{refused, read, firstNumber, headReasons, refusal, noRefusal}
+use Rattle.layout.specs.Outcomes.{refused, read, firstNumber, headReasons, refusal, noRefusal, refusalOf}
 use Rattle.layout.specs.declared.Refusal.{Refusal}
 use Rattle.layout.proofs.Outcomes.{head-first}
 use Rattle.identification.specs.Section1.{told as told₁, refusalIn as refusalIn₁}
@@ -24,7 +24,7 @@ use Rattle.product.specs.declared.Answer.the-variants.{Read as Read₄, Refused
 use Rattle.packing.specs.Section5.{told₅, refusalIn₅}
 use Rattle.packing.specs.declared.Answer.{Answer as Answer₅}
 use Rattle.packing.specs.declared.Answer.the-variants.{Read as Read₅, Refused as Refused₅}
-use Rattle.record.specs.Records.{refusalOf, refusalNumbered, outcome₇alone, sectionOutcome}
+use Rattle.record.specs.Records.{refusalNumbered, outcome₇alone, sectionOutcome}
 use Rattle.record.proofs.refusal.Statement.{statement}
 use Rattle.record.proofs.refusal.Tie as tie
 
