@@ -43,8 +43,8 @@ use Rattle.standard.specs.Input.{Holds}
 use Rattle.text.specs.Text.{written, startsWith, append, decimal, wholeNumber}
 use Rattle.report.specs.Texts.{listing, explanation}
 use Rattle.shelf_octets.specs.ShelfOctets.{shelfIn, octetsOf}
-use Rattle.record.specs.Lent.{done}
-use Rattle.record.specs.Records.{sectionOutcome, intoRow}
+use Rattle.values.specs.Lent.{done}
+use Rattle.values.specs.Records.{sectionOutcome, intoRow}
 use Rattle.skogmund.specs.Entries.{doneBoth, rowUnpacked, recordTold, listingTold}
 use Rattle.skogmund.specs.Shelves.{emptied, joined, filedField, filedQueue, slotShown}
 use Rattle.skogmund.specs.Parts.{partTold}
@@ -126,7 +126,7 @@ use Rattle.report.proofs.whole_explanation.Reads as whole-explanation
 use Rattle.shelf_octets.proofs.read.Reads as octets-read
 use Rattle.shelf_octets.proofs.slot_of.Reads as octets-slot-of
 use Rattle.shelf_octets.proofs.write.Reads as octets-write
-use Rattle.record.proofs.read_into.Reads as read-into
+use Rattle.values.proofs.read_into.Reads as read-into
 use Rattle.skogmund.proofs.skogmund_unpack.Reads as skogmund-unpack
 use Rattle.skogmund.proofs.skogmund_list.Reads as skogmund-list
 use Rattle.skogmund.proofs.shelves.skogmund_empty.Reads as skogmund-empty

@@ -11,13 +11,13 @@ pub use Rattle.demands.proofs.OneAnswer.{one-identification, one-grid, 
 -- ".. or refuses with a number from document 01.": its table lists the number for the section, and the place is 0 except with 8,
 -- and then an octet that a section can have.
 pub use Rattle.refusals.proofs.RefusalNumbers.{identification-refuses, grid-refuses, product-refuses, packing-refuses, data-refuses, unpacking-refuses, field-refuses, filing-refuses, record-refuses, queue-refuses, queue-number, head-number}
-pub use Rattle.record.proofs.RecordRead.{read-into-refuses}
+pub use Rattle.values.proofs.RecordRead.{read-into-refuses}
 -- Of the entries for C: each answers 0, or one number for a refusal that a table lists, and no two refusals have the same;
 pub use Rattle.demands.proofs.NumbersForC.{unpack-answers, read-answers, part-answers, list-answers, empty-answers, join-answers, slot-answers, field-answers, queue-answers, one-refusal}
 -- it can be taken apart, and is 0 exactly where nothing is refused (of `skogmund_read`: `told-exactly-when`, demand 2)
 pub use Rattle.skogmund.proofs.Answered.{taken-apart, listed-code, unpacked-exactly-when, part-exactly-when, listed-exactly-when, emptied-exactly-when, joined-exactly-when, shown-exactly-when, filed-exactly-when, queue-exactly-when}
--- "A refusal changes no shelf and no lent buffer.": the theorems of this file, and of `record::read_into` and the entries for C
-pub use Rattle.record.proofs.RecordRead.{row-stays}
+-- "A refusal changes no shelf and no lent buffer.": the theorems of this file, and of `values::read_into` and the entries for C
+pub use Rattle.values.proofs.RecordRead.{row-stays}
 pub use Rattle.skogmund.proofs.RefusalsLeaveAll.{unpack-leaves, read-leaves, part-leaves, list-leaves, empty-leaves, join-leaves, field-leaves, queue-leaves, slot-leaves}
 use Prim.Native.Nat.{ℕ}
 use mathlib.Core.Path.{_≡_, refl, sym, ap, _∙_}

@@ -155,8 +155,8 @@ use Rattle.report.proofs.listing.Statement as report-listing
 use Rattle.report.proofs.listing.Met as report-listing-met
 use Rattle.report.proofs.explanation.Statement as report-explanation
 use Rattle.report.proofs.explanation.Met as report-explanation-met
-use Rattle.record.proofs.read_into.Statement as record-read-into
-use Rattle.record.proofs.read_into.Met as record-read-into-met
+use Rattle.values.proofs.read_into.Statement as record-read-into
+use Rattle.values.proofs.read_into.Met as record-read-into-met
 use Rattle.skogmund.proofs.skogmund_unpack.Statement as skogmund-unpack
 use Rattle.skogmund.proofs.skogmund_unpack.Met as skogmund-unpack-met
 use Rattle.skogmund.proofs.skogmund_list.Statement as skogmund-list

@@ -87,7 +87,7 @@ use Rattle.report.proofs.whole_listing.Reads as report-whole-listing
 use Rattle.report.proofs.whole_explanation.Reads as report-whole-explanation
 use Rattle.report.proofs.listing.Reads as report-listing
 use Rattle.report.proofs.explanation.Reads as report-explanation
-use Rattle.record.proofs.read_into.Reads as record-read-into
+use Rattle.values.proofs.read_into.Reads as record-read-into
 use Rattle.skogmund.proofs.skogmund_unpack.Reads as skogmund-unpack
 use Rattle.skogmund.proofs.skogmund_list.Reads as skogmund-list
 use Rattle.skogmund.proofs.part.skogmund_part.Reads as skogmund-part

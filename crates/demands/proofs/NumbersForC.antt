@@ -26,9 +26,9 @@ use Rattle.queue.specs.declared.QueueAnswer.the-variants.{Filed as filedAll, Re
 use Rattle.queue.specs.Queues.{queueFiled}
 use Rattle.refusals.specs.Refusals.{Row, oneOf, numbersOf, Listed, unpackTable, filingTable, queueTable}
 use Rattle.refusals.proofs.RefusalNumbers.{Refuses, wider, unpack-refuses, filing-refuses, queue-refuses}
-use Rattle.record.specs.Lent.{Done}
-use Rattle.record.specs.Refused.{readTable}
-use Rattle.record.proofs.RecordRead.{read-into-refuses}
+use Rattle.values.specs.Lent.{Done}
+use Rattle.values.specs.Refused.{readTable}
+use Rattle.values.proofs.RecordRead.{read-into-refuses}
 use Rattle.skogmund.specs.Entries.{code, codeOf, coded, ifRoom, rowUnpacked, recordTold, fits, listingTold}
 use Rattle.skogmund.specs.Parts.{partTold}
 use Rattle.skogmund.specs.Shelves.{isShelf, emptied, joined, keptIn, fieldKept, filedField, queueKept, filedQueue, slotShown}

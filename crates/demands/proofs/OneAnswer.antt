@@ -33,7 +33,7 @@ use Rattle.shelf.specs.declared.Shelf.{Shelf}
 use Rattle.filing.specs.declared.Answer.{Answer}
 use Rattle.filing.specs.declared.Filed.{Filed}
 use Rattle.text.specs.Text.{Written, written}
-use Rattle.record.specs.Lent.{Done, done}
+use Rattle.values.specs.Lent.{Done, done}
 
 -- ---- the readers, whose contracts say what an answer tells
 
@@ -85,6 +85,6 @@ one-filing x a b after later p q = let e = p ∙ sym q in (ap (λ (x : Filed). x
 pub one-text : (x : Written) (a b : ℕ) (after later : List ℕ) → written after a ≡ x → written later b ≡ x → (a ≡ b) × (after ≡ later)
 one-text x a b after later p q = let e = p ∙ sym q in (ap (λ (x : Written). x .at) e, ap (λ (x : Written). x .octets) e)
 
--- `record::read_into` and every entry for C: the answer and the lent buffers, one or a pair
+-- `values::read_into` and every entry for C: the answer and the lent buffers, one or a pair
 pub one-done : {A B : Type 0} (x : Done A B) (a b : A) (after later : B) → done a after ≡ x → done b later ≡ x → (a ≡ b) × (after ≡ later)
 one-done {A} {B} x a b after later p q = let e = p ∙ sym q in (ap (λ (x : Done A B). x .answer) e, ap (λ (x : Done A B). x .lent) e)

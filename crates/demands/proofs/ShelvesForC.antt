@@ -19,8 +19,8 @@ use Rattle.filing.specs.Filing.{filedOf}
 use Rattle.queue.specs.Queues.{queueFiled}
 use Rattle.queue.specs.Records.{issueFrom}
 use Rattle.queue.specs.History.{History, start, file, queue, join, shelfOf}
-use Rattle.record.specs.Lent.{Done, done}
-use Rattle.record.specs.Records.{withCount}
+use Rattle.values.specs.Lent.{Done, done}
+use Rattle.values.specs.Records.{withCount}
 use Rattle.skogmund.specs.Entries.{code, doneBoth, ifRoom}
 use Rattle.skogmund.specs.Shelves.{isShelf, emptied, joined, filedField, filedQueue, slotNumbers, slotShown}
 use Rattle.skogmund.proofs.Answered.{room-left, field-left, queue-left}

@@ -1,5 +1,5 @@
 -- With which of document 01's numbers an entry for C refuses: those of what it calls, 18 where there is no room, and 19 for a number. (Of
--- `skogmund_read`: `readTable`, `record/specs/Refused.antt`.)
+-- `skogmund_read`: `readTable`, `values/specs/Refused.antt`.)
 -- Assumes nothing.
 use Prim.Native.Nat.{ℕ}
 use mathlib.Core.Path.{_≡_}

@@ -26,9 +26,9 @@ use Rattle.report.specs.Texts.{listing}
 use Rattle.refusals.specs.Refusals.{Row, Listed, unpackTable, filingTable}
 use Rattle.refusals.proofs.RefusalNumbers.{unpack-refuses, filing-refuses}
 use Rattle.refusals.proofs.OneNumber.{positive, proper}
-use Rattle.record.specs.Lent.{Done, done, over}
-use Rattle.record.proofs.RecordRead.{accepting}
-use Rattle.record.specs.Records.{withCount}
+use Rattle.values.specs.Lent.{Done, done, over}
+use Rattle.values.proofs.RecordRead.{accepting}
+use Rattle.values.specs.Records.{withCount}
 use Rattle.skogmund.specs.Entries.{code, codeOf, coded, doneBoth, ifRoom, rowUnpacked, listingTold}
 use Rattle.skogmund.specs.Parts.{partTold}
 use Rattle.skogmund.specs.Shelves.{isShelf, emptied, joined, keptIn, Room, fieldKept, filedField, Files, queueKept, filedQueue, slotNumbers, slotShown}

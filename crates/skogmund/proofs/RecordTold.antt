@@ -10,9 +10,9 @@ use lib.ListN.{length}
 use Rattle.layout.specs.Fields.{Value}
 use Rattle.layout.specs.Outcomes.{read}
 use Rattle.layout.specs.declared.Refusal.{Refusal}
-use Rattle.record.specs.Lent.{Done}
-use Rattle.record.specs.Records.{numbersIn, withCount, sectionOutcome, AcceptedWithRoom}
-use Rattle.record.proofs.RecordRead.{none-refused, record-put}
+use Rattle.values.specs.Lent.{Done}
+use Rattle.values.specs.Records.{numbersIn, withCount, sectionOutcome, AcceptedWithRoom}
+use Rattle.values.proofs.RecordRead.{none-refused, record-put}
 use Rattle.skogmund.specs.Entries.{codeOf, recordTold}
 
 pub told-exactly-when : (section : ℕ) (s : List ℕ) (row : List ℤ) → (recordTold section s row .answer ≡ 0) ↔ AcceptedWithRoom section s row

@@ -21,9 +21,9 @@ use Rattle.queue.specs.Records.{issueFrom}
 use Rattle.queue.specs.declared.QueueAnswer.{QueueAnswer}
 use Rattle.queue.specs.declared.QueueAnswer.the-variants.{Filed as filedAll, Refused as refusedAll}
 use Rattle.queue.specs.Queues.{queueFiled}
-use Rattle.record.specs.Lent.{done}
-use Rattle.record.specs.Records.{sectionOutcome}
-use Rattle.record.proofs.RecordRead.{row-stays}
+use Rattle.values.specs.Lent.{done}
+use Rattle.values.specs.Records.{sectionOutcome}
+use Rattle.values.proofs.RecordRead.{row-stays}
 use Rattle.skogmund.specs.Entries.{codeOf, coded, ifRoom, Untouched, rowUnpacked, recordTold, fits, listingTold}
 use Rattle.skogmund.specs.Parts.{partTold}
 use Rattle.skogmund.specs.Shelves.{isShelf, emptied, joined, keptIn, fieldKept, filedField, queueKept, filedQueue, slotShown}

@@ -12,8 +12,8 @@ use Rattle.layout.specs.Outcomes.{Outcome, refusalOf}
 use Rattle.layout.specs.declared.Refusal.{Refusal}
 use Rattle.packing.specs.Unpacking.{unpackOutcome, rowAfter}
 use Rattle.report.specs.Texts.{listing}
-use Rattle.record.specs.Lent.{Done, done, over}
-use Rattle.record.specs.Records.{sectionOutcome, intoRow}
+use Rattle.values.specs.Lent.{Done, done, over}
+use Rattle.values.specs.Records.{sectionOutcome, intoRow}
 
 -- number x 2^40 + section x 2^32 + place
 abbrev pub code : ℕ → ℕ → ℕ → ℕ

@@ -9,7 +9,7 @@ use Rattle.layout.specs.Spans.{nowhere}
 use Rattle.layout.specs.declared.Span.{Span}
 use Rattle.grid.specs.Section3.{listSpan}
 use Rattle.product.specs.Views.{rangeSpan, memberSpan, coordinateSpan}
-use Rattle.record.specs.Lent.{Done, over}
+use Rattle.values.specs.Lent.{Done, over}
 use Rattle.skogmund.specs.Entries.{ifRoom}
 
 -- 1: the list of section 3; 2, 3 and 4: the k-th time range (from 0), the members and the coordinates of section 4; others are nowhere

@@ -20,8 +20,8 @@ use Rattle.queue.specs.Records.{issueFrom}
 use Rattle.queue.specs.declared.QueueAnswer.{QueueAnswer}
 use Rattle.queue.specs.declared.QueueAnswer.the-variants.{Filed as filedAll, Refused as refusedAll}
 use Rattle.queue.specs.Queues.{queueFiled}
-use Rattle.record.specs.Lent.{Done, done, over}
-use Rattle.record.specs.Records.{withCount}
+use Rattle.values.specs.Lent.{Done, done, over}
+use Rattle.values.specs.Records.{withCount}
 use Rattle.skogmund.specs.Entries.{code, codeOf, doneBoth, ifRoom}
 
 -- these are as many octets as a shelf has

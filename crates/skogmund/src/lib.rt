@@ -2,7 +2,7 @@
 // number: 0 for none, else number x 2^40 + section x 2^32 + place.
 ghost use mathlib.Core.Path.{_≡_};
 ghost use Prim.Native.Nat.{_≤_};
-ghost use Rattle.record.specs.Lent.{done};
+ghost use Rattle.values.specs.Lent.{done};
 ghost use Rattle.skogmund.specs.Entries.{codeOf, doneBoth, rowUnpacked, recordTold, listingTold};
 use layout::Refusal;
 use packing::Unpacked;
@@ -29,7 +29,7 @@ pub extern "C" fn skogmund_unpack(section5: &[u8], section7: &[u8], row: &mut [u
 pub extern "C" fn skogmund_read(section: u8, s: &[u8], values: &mut [i64]) -> u64
     ensures { λ r. ⌜ done r (now (values .exit)) ≡ recordTold section (now (s .entry)) (now (values .entry)) ⌝ }
 {
-    code(record::read_into(section, s, values))
+    code(values::read_into(section, s, values))
 }
 
 // A place is an octet number of a section, of which there are at most 65,536.

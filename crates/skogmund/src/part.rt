@@ -1,7 +1,7 @@
 // Where a part of a section stands: C cannot be handed a view of it.
 ghost use mathlib.Core.Path.{_≡_};
 ghost use Prim.Native.Nat.{_^_, _<_};
-ghost use Rattle.record.specs.Lent.{done};
+ghost use Rattle.values.specs.Lent.{done};
 ghost use Rattle.skogmund.specs.Parts.{partSpan, firstOctet, partTold};
 use layout::Span;
 

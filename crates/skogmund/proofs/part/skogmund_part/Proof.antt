@@ -7,7 +7,7 @@ use lib.Seq.{sets-eq}
 use denote.Ref.{now}
 use borrow.Author.Needs.{needs}
 use borrow.Author.Tests.{lt-leb, le-leb}
-use Rattle.record.specs.Lent.{done}
+use Rattle.values.specs.Lent.{done}
 use Rattle.skogmund.specs.Parts.{partTold}
 use Rattle.skogmund.proofs.PartsWithin.{part-within}
 use Rattle.skogmund.proofs.part.skogmund_part.Statement.{statement}

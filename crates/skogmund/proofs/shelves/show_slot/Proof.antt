@@ -16,7 +16,7 @@ use mir.ValLaws.{toZ-pos}
 use Rattle.octets.specs.Octets.{part}
 use Rattle.shelf.specs.declared.Slot.{Slot}
 use Rattle.text.proofs.Sizes.{wide, wide-kept, wide-fits}
-use Rattle.record.specs.Records.{withCount}
+use Rattle.values.specs.Records.{withCount}
 use Rattle.skogmund.specs.Shelves.{cardValues, slotNumbers}
 use Rattle.skogmund.proofs.Kept.{card-over}
 use Rattle.skogmund.proofs.shelves.show_slot.Statement.{statement}

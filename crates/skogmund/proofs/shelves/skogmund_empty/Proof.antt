@@ -7,7 +7,7 @@ use denote.Ref.{now}
 use Rattle.octets.proofs.Free.{free}
 use Rattle.shelf_octets.specs.ShelfOctets.{octetsOf}
 use Rattle.shelf_octets.proofs.Laws.{empty-zeros}
-use Rattle.record.specs.Lent.{done}
+use Rattle.values.specs.Lent.{done}
 use Rattle.skogmund.specs.Shelves.{emptied}
 use Rattle.skogmund.proofs.Kept.{written-over}
 use Rattle.skogmund.proofs.shelves.skogmund_empty.Statement.{statement}

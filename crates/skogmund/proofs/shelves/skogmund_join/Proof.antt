@@ -7,7 +7,7 @@ use denote.Ref.{now}
 use Rattle.octets.proofs.Free.{free}
 use Rattle.shelf.specs.Shelves.{joinShelf}
 use Rattle.shelf_octets.specs.ShelfOctets.{octetsOf}
-use Rattle.record.specs.Lent.{done}
+use Rattle.values.specs.Lent.{done}
 use Rattle.skogmund.specs.Shelves.{joined}
 use Rattle.skogmund.proofs.Kept.{written-over}
 use Rattle.skogmund.proofs.shelves.skogmund_join.Statement.{statement}

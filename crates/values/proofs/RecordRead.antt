@@ -1,0 +1,129 @@
+-- What `read_into` answers: a refusal is one that document 01 lists, and leaves the row; none says that the record stands there.
+-- Assumes nothing.
+use Prim.Native.Nat.{ℕ, _≤_}
+use native.Mathlib.Omega.{arith}
+use mathlib.Core.Path.{_≡_, refl, subst⁻¹}
+use mathlib.Core.Logic.{_⊎_, inl, inr}
+use mathlib.Core.Bool.{Bool, true, false, cond}
+use mathlib.Core.List.{List, [], _∷_}
+use lib.Dec.{eqb, ltb}
+use lib.IntN.{ℤ}
+use lib.ListN.{length}
+use borrow.Author.Tests.{eq-eqb, ne-eqb, eqb-true, eqb-false, le-ltb, ltb-false}
+use Rattle.octets.specs.Octets.{beAt}
+use Rattle.layout.specs.Fields.{Value, plain}
+use Rattle.layout.specs.Outcomes.{Outcome, refused, read, noRefusal, refusal, refusalOf}
+use Rattle.layout.specs.declared.Refusal.{Refusal}
+use Rattle.layout.proofs.Outcomes.{either}
+use Rattle.identification.specs.Section1.{outcome₁}
+use Rattle.grid.specs.Section3.{outcome₃}
+use Rattle.product.specs.Section4.{outcome₄}
+use Rattle.packing.specs.Section5.{outcome₅}
+use Rattle.refusals.specs.Refusals.{oneOf, numbersOf, Listed, table₁, table₃, table₄, table₅}
+use Rattle.refusals.proofs.RefusalNumbers.{Refuses, refuses-wider, head-refuses, refuses₁, refuses₃, refuses₄, refuses₅}
+use Rattle.refusals.proofs.OneNumber.{Proper, positive, proper}
+use Rattle.values.specs.Lent.{done}
+use Rattle.values.specs.Refused.{ownNumbers, readTable}
+use Rattle.values.specs.Records.{numbersIn, withCount, outcome₇alone, sectionOutcome, intoRow, AcceptedWithRoom}
+
+-- ---- a section's own refusals
+
+-- by the number that is asked for: one of five, or another
+by-number : (P : ℕ → Outcome → Type 0) (n k : ℕ) (a b : Outcome) → P k a → ((n ≡ k → ⊥) → P n b) → P n (cond (eqb n k) a b)
+by-number P n k a b p q = by (eqb n k) refl
+  where
+    by : (t : Bool) → eqb n k ≡ t → P n (cond t a b)
+    by true e = subst⁻¹ (λ (m : ℕ). P m a) (eqb-true n k e) p
+    by false e = q (eqb-false n k e)
+
+each-section : (P : ℕ → Outcome → Type 0) (s : List ℕ) → P 1 (outcome₁ s) → P 3 (outcome₃ s) → P 4 (outcome₄ s) → P 5 (outcome₅ s) → P 7 (outcome₇alone s)
+    → ((n : ℕ) → ownNumbers n ≡ (4 ∷ []) → P n (refused 4 n 0)) → (n : ℕ) → P n (sectionOutcome n s)
+unfolding sectionOutcome
+each-section P s one three four five seven other n =
+    by-number P n 1 _ _ one
+    (λ a. by-number P n 3 _ _ three
+    (λ b. by-number P n 4 _ _ four
+    (λ c. by-number P n 5 _ _ five
+    (λ d. by-number P n 7 _ _ seven (λ e. other n (rw (ne-eqb _ _ a, ne-eqb _ _ b, ne-eqb _ _ c, ne-eqb _ _ d, ne-eqb _ _ e)))))))
+
+seven-refuses : (s : List ℕ) → Refuses (readTable 7) (outcome₇alone s)
+unfolding outcome₇alone
+seven-refuses s = head-refuses (readTable 7) 7 s (read (plain (beAt s 1 4) ∷ plain (beAt s 5 1) ∷ [])) refl tt
+
+-- each section's refusals are its own
+own : (P : ℕ → Outcome → Type 0) → ((n : ℕ) (o : Outcome) → Refuses (readTable n) o → oneOf (numbersOf (readTable n) 0) 18 ≡ true → P n o) → ((n : ℕ) → Listed (readTable n) (refusal 4 n 0) → P n (refused 4 n 0))
+    → (section : ℕ) (s : List ℕ) → P section (sectionOutcome section s)
+own P p q section s =
+    each-section P s (p 1 _ (refuses-wider (readTable 1) table₁ (outcome₁ s) refl (refuses₁ s)) refl)
+    (p 3 _ (refuses-wider (readTable 3) table₃ (outcome₃ s) refl (refuses₃ s)) refl) (p 4 _ (refuses-wider (readTable 4) table₄ (outcome₄ s) refl (refuses₄ s)) refl)
+    (p 5 _ (refuses-wider (readTable 5) table₅ (outcome₅ s) refl (refuses₅ s)) refl) (p 7 _ (seven-refuses s) refl)
+    (λ n e. q n (record { listed = rw (eq-eqb n n refl, e); placed = refl; within = omega arith })) section
+
+section-refuses : (section : ℕ) (s : List ℕ) → Refuses (readTable section) (sectionOutcome section s)
+section-refuses = own (λ n o. Refuses (readTable n) o) (λ n o r e. r) (λ n l. l)
+
+-- none of its numbers is 0
+positive-own : (section : ℕ) → positive (readTable section) ≡ true
+positive-own section =
+    let P : List ℕ → Type 0 = λ l. positive (record { section = section; numbers = l } ∷ []) ≡ true in
+    either P (eqb section 1) refl (either P (eqb section 3) refl (either P (eqb section 4) refl (either P (eqb section 5) refl (either P (eqb section 7) refl refl))))
+
+pub all-proper : (section : ℕ) (s : List ℕ) → Proper (sectionOutcome section s)
+all-proper section s = proper (readTable section) (sectionOutcome section s) (positive-own section) (section-refuses section s)
+
+-- the number 0 is no refusal's
+pub accepting : (o : Outcome) → Proper o → refusalOf o .number ≡ 0 → (vs : List Value) × (o ≡ read vs)
+accepting (refused number section place) p e = absurd (p .0 e)
+accepting (read vs) p e = (vs, refl)
+
+-- ---- with 18
+
+-- none, or a refusal that the table lists
+pub read-into-refuses : (section : ℕ) (s : List ℕ) (row : List ℤ) → (intoRow (sectionOutcome section s) row .answer ≡ noRefusal) ⊎ Listed (readTable section) (intoRow (sectionOutcome section s) row .answer)
+unfolding intoRow
+read-into-refuses section s row =
+    own (λ n o. (intoRow o row .answer ≡ noRefusal) ⊎ Listed (readTable n) (intoRow o row .answer)) by (λ n l. inr l) section s
+  where
+    by-room : (n : ℕ) → oneOf (numbersOf (readTable n) 0) 18 ≡ true → (t : Bool) (row′ : List ℤ)
+        → let x = cond t (done (refusal 18 0 0) row) (done noRefusal row′) .answer in (x ≡ noRefusal) ⊎ Listed (readTable n) x
+    by-room n e true row′ = inr (record { listed = e; placed = refl; within = omega arith })
+    by-room n e false row′ = inl refl
+
+    by : (n : ℕ) (o : Outcome) → Refuses (readTable n) o → oneOf (numbersOf (readTable n) 0) 18 ≡ true → (intoRow o row .answer ≡ noRefusal) ⊎ Listed (readTable n) (intoRow o row .answer)
+    by n (refused number section′ place) r e = inr r
+    by n (read vs) r e = by-room n e (ltb (length row) 64) _
+
+pub within : (section : ℕ) (s : List ℕ) (row : List ℤ) → intoRow (sectionOutcome section s) row .answer .place ≤ 65536
+within section s row = by (read-into-refuses section s row)
+  where
+    by : {x : Refusal} → (x ≡ noRefusal) ⊎ Listed (readTable section) x → x .place ≤ 65536
+    by (inl e) = rw e (omega arith)
+    by (inr l) = l .within
+
+-- a refusal leaves the row
+pub row-stays : (o : Outcome) (row : List ℤ) → (intoRow o row .answer ≡ noRefusal → ⊥) → intoRow o row .lent ≡ row
+unfolding intoRow
+row-stays (refused number section place) row h = refl
+row-stays (read vs) row h = by (ltb (length row) 64) _ h
+  where
+    by : (t : Bool) (row′ : List ℤ) → (cond t (done (refusal 18 0 0) row) (done noRefusal row′) .answer ≡ noRefusal → ⊥) → cond t (done (refusal 18 0 0) row) (done noRefusal row′) .lent ≡ row
+    by true row′ h = refl
+    by false row′ h = absurd (h refl)
+
+-- nor is it 18's
+none-by : (o : Outcome) (row : List ℤ) → Proper o → intoRow o row .answer .number ≡ 0 → ((vs : List Value) × (o ≡ read vs)) × (64 ≤ length row)
+unfolding intoRow
+none-by (refused number section place) row p e = absurd (p .0 e)
+none-by (read vs) row p e = by (ltb (length row) 64) refl _ e
+  where
+    by : (t : Bool) → ltb (length row) 64 ≡ t → (row′ : List ℤ) → cond t (done (refusal 18 0 0) row) (done noRefusal row′) .answer .number ≡ 0 → ((us : List Value) × (read vs ≡ read us)) × (64 ≤ length row)
+    by true h row′ e = absurd (omega (arith, e))
+    by false h row′ e = ((vs, refl), ltb-false _ _ h)
+
+pub none-refused : (section : ℕ) (s : List ℕ) (row : List ℤ) → intoRow (sectionOutcome section s) row .answer .number ≡ 0 → AcceptedWithRoom section s row
+none-refused section s row e = none-by (sectionOutcome section s) row (all-proper section s) e
+
+-- the record of an accepted section stands in the row
+pub record-put : (o : Outcome) (row : List ℤ) (vs : List Value) → o ≡ read vs → 64 ≤ length row → intoRow o row ≡ done noRefusal (withCount (numbersIn vs) row)
+unfolding intoRow
+record-put o row vs e h = rw (e, le-ltb _ _ h)

@@ -1,0 +1,76 @@
+-- The record of a section as numbers: their count and they, in a lent row of 64-bit places.
+-- Assumes nothing.
+use Prim.Native.Nat.{ℕ, _≤_}
+use mathlib.Core.Path.{_≡_}
+use mathlib.Core.List.{List, [], _∷_, _++_}
+use mathlib.Core.Bool.{cond}
+use lib.Dec.{ltb, eqb}
+use lib.IntN.{ℤ, pos, negsuc}
+use lib.ListN.{length}
+use Rattle.octets.specs.Octets.{beAt}
+use Rattle.layout.specs.Fields.{Value, none, missing, is, which, plain}
+use Rattle.layout.specs.Outcomes.{Outcome, refused, read, firstOf, headReasons, refusal, noRefusal}
+use Rattle.layout.specs.declared.Refusal.{Refusal}
+use Rattle.identification.specs.Section1.{outcome₁}
+use Rattle.grid.specs.Section3.{outcome₃}
+use Rattle.product.specs.Section4.{outcome₄}
+use Rattle.packing.specs.Section5.{outcome₅}
+use Rattle.values.specs.Lent.{Done, done, over}
+
+-- INT64_MIN stands for missing
+abbrev pub missingNumber : ℤ
+missingNumber = negsuc 9223372036854775807
+
+-- what stands in the row for a value: nothing for a field that the template lacks, and for which part follows, which no octets say
+abbrev pub inRow : Value → List ℤ
+inRow none = []
+inRow missing = missingNumber ∷ []
+inRow (is z) = z ∷ []
+inRow (which n) = []
+
+unfoldable pub numbersIn : List Value → List ℤ
+numbersIn [] = []
+numbersIn (v ∷ vs) = inRow v ++ numbersIn vs
+
+-- their count and the numbers, at the start of a row
+unfoldable pub withCount : List ℤ → List ℤ → List ℤ
+withCount numbers row = over row (pos (length numbers) ∷ numbers)
+
+-- ---- the sections
+
+-- section 7 alone, without the N and the bits of a section 5, knows 1 to 4 only
+unfoldable pub outcome₇alone : List ℕ → Outcome
+outcome₇alone s = firstOf 7 (headReasons 7 s) (read (plain (beAt s 1 4) ∷ plain (beAt s 5 1) ∷ []))
+
+-- any other section number is 4 at once
+unfoldable pub sectionOutcome : ℕ → List ℕ → Outcome
+sectionOutcome section s =
+    cond (eqb section 1) (outcome₁ s)
+    (cond (eqb section 3) (outcome₃ s)
+    (cond (eqb section 4) (outcome₄ s)
+    (cond (eqb section 5) (outcome₅ s)
+    (cond (eqb section 7) (outcome₇alone s)
+    (refused 4 section 0)))))
+
+-- ---- what is answered
+
+-- the section's own refusals, then 18 where there are fewer than 64 places; each leaves the row as it was
+unfoldable pub intoRow : Outcome → List ℤ → Done Refusal (List ℤ)
+intoRow (refused number section place) row = done (refusal number section place) row
+intoRow (read vs) row = cond (ltb (length row) 64) (done (refusal 18 0 0) row) (done noRefusal (withCount (numbersIn vs) row))
+
+-- ---- for the demands: when a record is told
+
+-- the section's values, and 64 places for them
+abbrev pub AcceptedWithRoom : ℕ → List ℕ → List ℤ → Type 0
+AcceptedWithRoom section s row = ((vs : List Value) × (sectionOutcome section s ≡ read vs)) × (64 ≤ length row)
+
+-- ---- for the contracts of private functions
+
+-- where a section is accepted, its record stands in the row
+abbrev pub PutsRecord : Outcome → List ℤ → List ℤ → Type 0
+PutsRecord o row row′ = (vs : List Value) → o ≡ read vs → row′ ≡ withCount (numbersIn vs) row
+
+-- a refusal of no place; with number 0, zeros
+abbrev pub refusalNumbered : ℕ → ℕ → Refusal
+refusalNumbered number section = cond (eqb number 0) noRefusal (refusal number section 0)
