@@ -2,3 +2,4 @@ pub mod Strict
 pub mod Lex
 pub mod Cards
 pub mod Octets
+pub mod Entries

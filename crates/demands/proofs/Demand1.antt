@@ -2,10 +2,25 @@
 -- and no lent buffer." docs/ENTRIES.md lists the entries.
 -- Assumes nothing.
 
--- "Each public entry takes every input, ..": a theorem for each entry of each crate.
-pub use Rattle.demands.proofs.EveryInput
--- ".. ends, ..": each meets its contract, which is so only of code that ends.
-pub use Rattle.demands.proofs.EveryEntryEnds
+-- "Each public entry takes every input, ends, ..": each crate states it of each of its entries, with what the entry's contract says (`Entry`,
+-- `entry/specs/Entry.antt`), and tests/entries compares these statements with the entries in the sources.
+pub use Rattle.octets.proofs.Entries as octets-entries
+pub use Rattle.layout.proofs.Entries as layout-entries
+pub use Rattle.identification.proofs.Entries as identification-entries
+pub use Rattle.grid.proofs.Entries as grid-entries
+pub use Rattle.product.proofs.Entries as product-entries
+pub use Rattle.packing.proofs.Entries as packing-entries
+pub use Rattle.field.proofs.Entries as field-entries
+pub use Rattle.card.proofs.Entries as card-entries
+pub use Rattle.shelf.proofs.Entries as shelf-entries
+pub use Rattle.shelf_octets.proofs.Entries as shelf-octets-entries
+pub use Rattle.filing.proofs.Entries as filing-entries
+pub use Rattle.queue.proofs.Entries as queue-entries
+pub use Rattle.text.proofs.Entries as text-entries
+pub use Rattle.report.proofs.Entries as report-entries
+pub use Rattle.values.proofs.Entries as values-entries
+pub use Rattle.standard.proofs.Entries as standard-entries
+pub use Rattle.skogmund.proofs.Entries as skogmund-entries
 -- ".. and answers ..": for each answer type, any two answers that the contract allows for an input are one, with what was lent.
 pub use Rattle.demands.proofs.OneAnswer.{one-identification, one-grid, one-product, one-packing, one-data, one-field, one-unpacking, one-filing, one-answer, one-number, one-signed, one-time, one-text, one-done}
 -- ".. or refuses with a number from document 01.": its table lists the number for the section, and the place is 0 except with 8,

@@ -1,6 +1,6 @@
 -- Demand 2. The definitions in it, for each section: what it means to follow the template and keep the value rules (`Follows…`,
 -- `specs/Accepted.antt` of its crate), the list of its fields (`fields…`), of which `layout/specs/Fields.antt` computes where each stands and
--- what it says, and what a program's answer says (`told`). A contract of a reader is `told a ≡ outcome… s` (`Contracts.antt`), so a theorem
+-- what it says, and what a program's answer says (`told`). A contract of a reader is `told a ≡ outcome… s` (`Entries.antt` of each), so a theorem
 -- with that premise is about every answer `a` that the contract allows.
 -- Assumes nothing.
 

@@ -1,12 +1,9 @@
 pub mod Starred
-pub mod EveryInput
-pub mod EveryEntryEnds
 pub mod OneAnswer
 pub mod Demand1
 pub mod Demand2
 pub mod Demand3
 pub mod WrongPrograms
-pub mod Contracts
 pub mod ShelvesAsOctets
 pub mod ShelvesForC
 pub mod NumbersForC

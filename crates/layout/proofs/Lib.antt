@@ -5,3 +5,4 @@ pub mod Untold
 pub mod Shown
 pub mod Allowed
 pub mod Spans
+pub mod Entries

@@ -1,2 +1,3 @@
 pub mod Years
 pub mod Laws
+pub mod Entries

@@ -3,3 +3,4 @@ pub mod Kept
 pub mod RefusalsLeaveAll
 pub mod RecordTold
 pub mod Answered
+pub mod Entries

@@ -3,3 +3,4 @@ pub mod Digits
 pub mod Laws
 pub mod Sizes
 pub mod Examples
+pub mod Entries

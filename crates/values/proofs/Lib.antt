@@ -1,3 +1,4 @@
 pub mod Words
 pub mod Templates
 pub mod RecordRead
+pub mod Entries

@@ -1,0 +1,1 @@
+// No code: what is said of a public entry, which each crate states of its own (proofs/Entries.antt there).
