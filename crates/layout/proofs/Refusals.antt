@@ -10,7 +10,7 @@ use lib.Dec.{leb, ltb, eqb}
 use lib.ListN.{length}
 use borrow.Author.Tests.{eqb-true, eq-eqb, leb-true, ltb-false}
 use Rattle.layout.specs.Fields.{Field, held, said, shown, allowed, FieldAt, badPlace, lowestBad, rawAt}
-use Rattle.layout.specs.Outcomes.{Outcome, refused, read, refusal, refusedBy, Reason, reason, badField, firstOf, firstRefusal, noRefusal, andThen, headReasons, openingReasons, totalReasons, templateReasons}
+use Rattle.layout.specs.Outcomes.{Outcome, refused, read, refusal, refusedBy, Reason, reason, firstOf, firstRefusal, noRefusal, andThen, headReasons, openingReasons, totalReasons, templateReasons}
 use Rattle.layout.specs.Refusals.{Row, row, oneOf, numbersOf, hasPlace, lastPlace, Listed}
 use Rattle.layout.specs.declared.Refusal.{Refusal}
 use Rattle.layout.proofs.Outcomes.{NoneHold, either}
