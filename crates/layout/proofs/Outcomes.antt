@@ -7,7 +7,7 @@ use Prim.Native.Nat.{ℕ, _≤_}
 use native.Mathlib.Omega.{arith}
 use lib.Dec.{eqb, ltb}
 use lib.ListN.{length}
-use borrow.Author.Tests.{le-ltb, ltb-false, not-true}
+use borrow.Author.Tests.{le-ltb, ltb-false, eqb-false, not-true}
 use Rattle.octets.specs.Octets.{beAt}
 use Rattle.layout.specs.Fields.{Value}
 use Rattle.layout.specs.Outcomes.{Reason, reason, Outcome, refused, read, refusal, refusalOf, refusedBy, ifRead, firstOf, firstRefusal, noRefusal, headReasons, openingReasons, totalReasons, templateReasons}
@@ -61,7 +61,22 @@ by-refusal section [] o p = refl
 by-refusal section (r ∷ rs) o p =
     with-one-more refusedBy o (firstRefusal section rs) (refusal (r .number) section (r .place)) (by-refusal section rs o (p .1)) (r .holds) (p .0)
 
--- which is the outcome's where nothing else refuses
+-- it is 0 where none holds, and where it is 0 none does
+pub none-refusal : (section : ℕ) (rs : List Reason) → NoneHold rs → firstRefusal section rs ≡ noRefusal
+unfolding firstRefusal NoneHold
+none-refusal section [] h = refl
+none-refusal section (r ∷ rs) h = rw (h .0) (none-refusal section rs (h .1))
+
+pub zero-none : (section : ℕ) (rs : List Reason) → Numbered rs → firstRefusal section rs .number ≡ 0 → NoneHold rs
+unfolding firstRefusal NoneHold Numbered
+zero-none section [] p e = tt
+zero-none section (r ∷ rs) p e = by-holding (zero-none section rs (p .1)) (r .holds) refl e
+  where
+    by-holding : (firstRefusal section rs .number ≡ 0 → NoneHold rs) → (t : Bool) → r .holds ≡ t → cond t (refusal (r .number) section (r .place)) (firstRefusal section rs) .number ≡ 0 → (r .holds ≡ false) × NoneHold rs
+    by-holding rest true h e = absurd (eqb-false (r .number) 0 (p .0 h) e)
+    by-holding rest false h e = (h, rest e)
+
+-- the first is the outcome's where nothing else refuses
 pub refusal-first : (section : ℕ) (rs : List Reason) (vs : List Value) → firstRefusal section rs ≡ refusalOf (firstOf section rs (read vs))
 unfolding firstOf firstRefusal
 refusal-first section [] vs = refl
