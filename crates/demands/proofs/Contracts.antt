@@ -19,7 +19,7 @@ use prog.Routine.{Routine}
 use prog.Wp.{Heap}
 use Rattle.octets.specs.Octets.{beAt, part, signOf, realYear}
 use Rattle.layout.specs.Fields.{unsigned, signed, orMissing, means, between, notOnes, notZero, after, valuesOf, lowestBad}
-use Rattle.layout.specs.Outcomes.{firstNumber, headReasons}
+use Rattle.layout.specs.Outcomes.{refusal, noRefusal, headReasons, openingReasons, templateReasons, firstRefusal}
 use Rattle.layout.specs.Missing.{in32, inSigned}
 use Rattle.layout.specs.Time.{time, timeIn}
 use Rattle.layout.specs.Spans.{spanAfter}
@@ -60,7 +60,11 @@ use Rattle.octets.proofs.signed16_at.Reads as signed16-at
 use Rattle.octets.proofs.signed32_at.Reads as signed32-at
 use Rattle.octets.proofs.real_year.Reads as real-year
 use Rattle.octets.proofs.part_after.Reads as part-after
+use Rattle.layout.proofs.Refusal.none.Reads as refusal-none
+use Rattle.layout.proofs.Refusal.of.Reads as refusal-of
 use Rattle.layout.proofs.head_refusal.Reads as head-refusal
+use Rattle.layout.proofs.opening_refusal.Reads as opening-refusal
+use Rattle.layout.proofs.template_refusal.Reads as template-refusal
 use Rattle.layout.proofs.octet_within.Reads as octet-within
 use Rattle.layout.proofs.present16.Reads as present16
 use Rattle.layout.proofs.present32.Reads as present32
@@ -173,8 +177,20 @@ octets-real-year lent given r later e = e
 pub octets-part-after : (lent : _) (given : _) (r : _) (later : _) → part-after.Learnt lent given r later → now r ≡ take (given .1 .1 .0) (drop (given .1 .0) (now (given .0)))
 octets-part-after lent given r later e = e
 
-pub layout-head-refusal : (lent : _) (given : _) (r : _) (later : _) → head-refusal.Learnt lent given r later → r ≡ firstNumber (headReasons (given .1 .0) (now (given .0)))
+pub layout-refusal-none : (lent : _) (given : _) (r : _) (later : _) → refusal-none.Learnt lent given r later → r ≡ noRefusal
+layout-refusal-none lent given r later e = e
+
+pub layout-refusal-of : (lent : _) (given : _) (r : _) (later : _) → refusal-of.Learnt lent given r later → r ≡ refusal (given .0) (given .1 .0) 0
+layout-refusal-of lent given r later e = e
+
+pub layout-head-refusal : (lent : _) (given : _) (r : _) (later : _) → head-refusal.Learnt lent given r later → r ≡ firstRefusal (given .1 .0) (headReasons (given .1 .0) (now (given .0)))
 layout-head-refusal lent given r later e = e
+
+pub layout-opening-refusal : (lent : _) (given : _) (r : _) (later : _) → opening-refusal.Learnt lent given r later → r ≡ firstRefusal (given .1 .0) (openingReasons (given .1 .0) (given .1 .1 .0) (now (given .0)))
+layout-opening-refusal lent given r later e = e
+
+pub layout-template-refusal : (lent : _) (given : _) (r : _) (later : _) → template-refusal.Learnt lent given r later → r ≡ firstRefusal (given .1 .0) (templateReasons (given .1 .1 .0) (given .1 .1 .1 .0) (given .1 .1 .1 .1 .0) (given .1 .1 .1 .1 .1 .0) (now (given .0)))
+layout-template-refusal lent given r later e = e
 
 pub layout-octet-within : (lent : _) (given : _) (r : _) (later : _) → octet-within.Learnt lent given r later → r ≡ cond (between (given .1 .1 .0) (given .1 .1 .1 .0) (beAt (now (given .0)) (given .1 .0) 1)) (given .1 .1 .1 .1 .0) (given .1 .0)
 layout-octet-within lent given r later e = e

@@ -25,8 +25,16 @@ use Rattle.octets.proofs.real_year.Statement as octets-real-year
 use Rattle.octets.proofs.real_year.Met as octets-real-year-met
 use Rattle.octets.proofs.part_after.Statement as octets-part-after
 use Rattle.octets.proofs.part_after.Met as octets-part-after-met
+use Rattle.layout.proofs.Refusal.none.Statement as layout-refusal-none
+use Rattle.layout.proofs.Refusal.none.Met as layout-refusal-none-met
+use Rattle.layout.proofs.Refusal.of.Statement as layout-refusal-of
+use Rattle.layout.proofs.Refusal.of.Met as layout-refusal-of-met
 use Rattle.layout.proofs.head_refusal.Statement as layout-head-refusal
 use Rattle.layout.proofs.head_refusal.Met as layout-head-refusal-met
+use Rattle.layout.proofs.opening_refusal.Statement as layout-opening-refusal
+use Rattle.layout.proofs.opening_refusal.Met as layout-opening-refusal-met
+use Rattle.layout.proofs.template_refusal.Statement as layout-template-refusal
+use Rattle.layout.proofs.template_refusal.Met as layout-template-refusal-met
 use Rattle.layout.proofs.octet_within.Statement as layout-octet-within
 use Rattle.layout.proofs.octet_within.Met as layout-octet-within-met
 use Rattle.layout.proofs.present16.Statement as layout-present16
@@ -222,8 +230,20 @@ octets-part-after-ends = octets-part-after-met.met
 
 -- ---- layout
 
+pub layout-refusal-none-ends : {M : Type 1} → layout-refusal-none.statement M
+layout-refusal-none-ends = layout-refusal-none-met.met
+
+pub layout-refusal-of-ends : {M : Type 1} → layout-refusal-of.statement M
+layout-refusal-of-ends = layout-refusal-of-met.met
+
 pub layout-head-refusal-ends : {M : Type 1} → layout-head-refusal.statement M
 layout-head-refusal-ends = layout-head-refusal-met.met
+
+pub layout-opening-refusal-ends : {M : Type 1} → layout-opening-refusal.statement M
+layout-opening-refusal-ends = layout-opening-refusal-met.met
+
+pub layout-template-refusal-ends : {M : Type 1} → layout-template-refusal.statement M
+layout-template-refusal-ends = layout-template-refusal-met.met
 
 pub layout-octet-within-ends : {M : Type 1} → layout-octet-within.statement M
 layout-octet-within-ends = layout-octet-within-met.met

@@ -22,7 +22,11 @@ use Rattle.octets.proofs.signed16_at.Reads as octets-signed16-at
 use Rattle.octets.proofs.signed32_at.Reads as octets-signed32-at
 use Rattle.octets.proofs.real_year.Reads as octets-real-year
 use Rattle.octets.proofs.part_after.Reads as octets-part-after
+use Rattle.layout.proofs.Refusal.none.Reads as layout-refusal-none
+use Rattle.layout.proofs.Refusal.of.Reads as layout-refusal-of
 use Rattle.layout.proofs.head_refusal.Reads as layout-head-refusal
+use Rattle.layout.proofs.opening_refusal.Reads as layout-opening-refusal
+use Rattle.layout.proofs.template_refusal.Reads as layout-template-refusal
 use Rattle.layout.proofs.octet_within.Reads as layout-octet-within
 use Rattle.layout.proofs.present16.Reads as layout-present16
 use Rattle.layout.proofs.present32.Reads as layout-present32
@@ -142,8 +146,20 @@ octets-part-after-takes lent given = tt
 
 -- ---- layout
 
+pub layout-refusal-none-takes : TakesEvery layout-refusal-none.Asked
+layout-refusal-none-takes lent given = tt
+
+pub layout-refusal-of-takes : TakesEvery layout-refusal-of.Asked
+layout-refusal-of-takes lent given = tt
+
 pub layout-head-refusal-takes : TakesEvery layout-head-refusal.Asked
 layout-head-refusal-takes lent given = tt
+
+pub layout-opening-refusal-takes : TakesEvery layout-opening-refusal.Asked
+layout-opening-refusal-takes lent given = tt
+
+pub layout-template-refusal-takes : TakesEvery layout-template-refusal.Asked
+layout-template-refusal-takes lent given = tt
 
 pub layout-octet-within-takes : TakesEvery layout-octet-within.Asked
 layout-octet-within-takes lent given = tt

@@ -1,4 +1,4 @@
--- What demand 1 says of an entry. What it says of a refusal is in the crate `refusals`.
+-- What demand 1 says of an entry. What it says of a refusal is `Listed`, `layout/specs/Refusals.antt`.
 -- Assumes nothing.
 
 -- what an entry asks of its caller holds of everything that may be lent and given

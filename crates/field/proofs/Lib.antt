@@ -1,3 +1,4 @@
 pub mod AnswersDetermined
 pub mod AcceptedExactlyWhen
 pub mod Points
+pub mod RefusalNumbers

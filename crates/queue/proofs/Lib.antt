@@ -10,3 +10,4 @@ pub mod Histories
 pub mod QueueIsJoin
 pub mod Concatenation
 pub mod StarredQueues
+pub mod RefusalNumbers
