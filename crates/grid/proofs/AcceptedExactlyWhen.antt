@@ -17,10 +17,14 @@ use Rattle.layout.specs.Outcomes.{read, firstOf, headReasons}
 use Rattle.layout.proofs.Blocks.{bad-none, none-bad}
 use Rattle.layout.proofs.Outcomes.{NoneHold, read-none, none-last}
 use Rattle.layout.proofs.Ranges.{both-hold, either-holds, between-in, in-between, test-differs, differs-test, test-same, same-test}
-use Rattle.grid.specs.Section3.{hasList, gridHead, counts, corners, pole, poles, fields₃, baseEnd, listWidth, interpretation, ni, nj, missingWith, agreedWithoutList, agreedWithList, agreed, listCount, listOctets, total, sumOf, pointsOf, productAbove, values₃, fittingReasons, fitting, templateReasons, asTemplate, numberReasons, templateNumbered, templateOf, outcome₃}
+use Rattle.grid.specs.Blocks.{hasList, gridHead, counts, corners, pole, poles}
+use Rattle.grid.specs.Templates.{fields₃, baseEnd, listWidth, interpretation, ni, nj, listCount, listOctets, total, values₃, templateNumbered, templateNamed}
+use Rattle.grid.specs.Agreement.{missingWith, agreedWithoutList, agreedWithList, agreed}
+use Rattle.grid.specs.Points.{sumOf, pointsOf, productAbove}
+use Rattle.grid.specs.Section3.{fittingReasons, fitting, templateReasons, asTemplate, numberReasons, outcome₃}
 use Rattle.grid.specs.Accepted.{numberOf, Missing, Present, PolesPresent, NoList, AList, Follows₃}
-use Rattle.grid.specs.declared.Template.{Template}
-use Rattle.grid.specs.declared.Template.the-variants.{LatLon, Rotated, Stretched, StretchedAndRotated}
+use Rattle.grid.specs.declared.templates.Template.{Template}
+use Rattle.grid.specs.declared.templates.Template.the-variants.{LatLon, Rotated, Stretched, StretchedAndRotated}
 use Rattle.grid.proofs.Widths.{which-width, width-listed, listed-not-0}
 use Rattle.grid.proofs.FieldsByBlock.{allowed-by-block, block-by-block-allowed}
 
@@ -179,7 +183,7 @@ module _ (template : Template) (s : List ℕ) (whole : length s ≡ total templa
 pub accepted-follows : (s : List ℕ) (vs : List Value) → outcome₃ s ≡ read vs → (template : Template) × Follows₃ template s × (vs ≡ values₃ template s)
 unfolding outcome₃ asTemplate fitting NoneHold AllAllowed placed gridHead counts corners
 accepted-follows s vs e =
-    let template = templateOf s in
+    let template = templateNamed s in
     let head = read-none 3 (headReasons 3 s) _ vs e in
     let number = read-none 3 (numberReasons s) _ vs (head .1) in
     let range = read-none 3 (templateReasons template s) _ vs (number .1) in
@@ -284,15 +288,15 @@ follows-accepted template s f =
     let fine =
     block-by-block-allowed template (listOctets s) s in-head in-counts in-corners (in-poles template s (f .poles))
     in
-    let head = none-last 3 (headReasons 3 s) (firstOf 3 (numberReasons s) (asTemplate (templateOf s) s)) (
+    let head = none-last 3 (headReasons 3 s) (firstOf 3 (numberReasons s) (asTemplate (templateNamed s) s)) (
       le-ltb (length s) 5 (omega (arith, base-long template)),
       (le-ltb _ _ (f .small), (same-test _ _ (f .says-length), (same-test _ _ (f .says-number), tt))),
     ) in
-    let by-number = none-last 3 (numberReasons s) (asTemplate (templateOf s) s) (
+    let by-number = none-last 3 (numberReasons s) (asTemplate (templateNamed s) s) (
       le-ltb (length s) 14 (omega (arith, base-long template)),
       (le-ltb _ _ number, tt),
     ) in
-    let template-is : templateOf s ≡ template = ap templateNumbered (f .names) ∙ named template in
+    let template-is : templateNamed s ≡ template = ap templateNumbered (f .names) ∙ named template in
     let range = none-last 3 (templateReasons template s) (fitting template s) (
       le-ltb _ _ long,
       (same-test _ _ (none-bad _ s fine), tt),

@@ -18,13 +18,14 @@ use Rattle.layout.proofs.Blocks.{bad-clear, bad-none, clear-bad, none-bad}
 use Rattle.layout.proofs.Outcomes.{NoneHold, read-none, none-last}
 use Rattle.layout.proofs.Ranges.{between-in, in-between, test-differs, differs-test, test-same, same-test}
 use Rattle.product.specs.Blocks.{process, forecast, scaled, surface, common, interval}
-use Rattle.product.specs.Section4.{templateOf, frontEnd, partEnd, rangesEnd, total, rangesAt, membersAt, coordinatesAt, totalIn, values₄, templateReasons, asTemplate, byTemplate, lengthReasons, outcome₄}
+use Rattle.product.specs.Templates.{templateOf, frontEnd, partEnd, rangesEnd, total, rangesAt, membersAt, coordinatesAt, totalIn, values₄}
+use Rattle.product.specs.Section4.{templateReasons, asTemplate, byTemplate, lengthReasons, outcome₄}
 use Rattle.product.specs.Accepted.{octetsBefore, countAt, forecastAt, EndKept, IntervalKept, Follows₄}
-use Rattle.product.specs.declared.PartKind.{PartKind}
-use Rattle.product.specs.declared.PartKind.the-variants.{None as noPart, Ensemble, Cluster, Probability, Aerosol}
-use Rattle.product.specs.declared.Template.{Template}
-use Rattle.product.specs.declared.Template.the-variants.{NotListed, Listed}
-use Rattle.product.proofs.Templates.{bad-is, part-enough}
+use Rattle.product.specs.declared.templates.PartKind.{PartKind}
+use Rattle.product.specs.declared.templates.PartKind.the-variants.{None as noPart, Ensemble, Cluster, Probability, Aerosol}
+use Rattle.product.specs.declared.templates.Template.{Template}
+use Rattle.product.specs.declared.templates.Template.the-variants.{NotListed, Listed}
+use Rattle.product.proofs.FieldsByBlock.{bad-is, part-enough}
 
 -- ---- document 01's table and the blocks
 

@@ -1,4 +1,4 @@
-pub mod Templates
+pub mod FieldsByBlock
 pub mod StarredProducts
 pub mod FieldsCoverOnce
 pub mod AcceptedExactlyWhen

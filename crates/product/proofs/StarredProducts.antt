@@ -7,7 +7,8 @@ use Rattle.layout.specs.Outcomes.{firstOf}
 use Rattle.layout.specs.Examples.{AllAgree}
 use Rattle.layout.specs.Time.{time}
 use Rattle.product.specs.Blocks.{head, parameter, process, forecast, scaled, surface, common, ensemble, cluster, interval}
-use Rattle.product.specs.Section4.{templateOf, ahead, behind, front, timeRanges, lists, fields₄, rangesEnd, total, rangesAt, asTemplate, byTemplate, outcome₄}
+use Rattle.product.specs.Templates.{templateOf, ahead, behind, front, timeRanges, lists, fields₄, rangesEnd, total, rangesAt}
+use Rattle.product.specs.Section4.{asTemplate, byTemplate, outcome₄}
 use Rattle.product.specs.Examples.{starredProducts}
 
 pub products-agree : AllAgree starredProducts

@@ -1,4 +1,5 @@
 pub mod Blocks
+pub mod Templates
 pub mod Section4
 pub mod Views
 pub mod Accepted

@@ -4,7 +4,9 @@ use mathlib.Core.Path.{_≡_, sym, _∙_}
 use mathlib.Core.Bool.{not, cond}
 use lib.Dec.{eqb}
 use Rattle.layout.specs.Outcomes.{refused, read, firstOf}
-use Rattle.grid.specs.Section3.{pointsOf, values₃, fitting, told}
+use Rattle.grid.specs.Templates.{values₃}
+use Rattle.grid.specs.Points.{pointsOf}
+use Rattle.grid.specs.Section3.{fitting, told}
 use borrow.Author.Needs.{needs}
 use borrow.Author.Tests.{eq-eqb, ne-eqb, not-false}
 use Rattle.grid.proofs.read_fitting.Statement.{statement}
