@@ -2,3 +2,4 @@ pub mod AcceptedExactlyWhen
 pub mod FieldsCoverOnce
 pub mod AnswersDetermined
 pub mod StarredYears
+pub mod RefusalNumbers

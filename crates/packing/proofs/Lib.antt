@@ -5,3 +5,4 @@ pub mod SpareBits
 pub mod StarredPacking
 pub mod Runs
 pub mod Unpacks
+pub mod RefusalNumbers
