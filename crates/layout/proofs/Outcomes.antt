@@ -10,7 +10,7 @@ use lib.ListN.{length}
 use borrow.Author.Tests.{le-ltb, ltb-false, not-true}
 use Rattle.octets.specs.Octets.{beAt}
 use Rattle.layout.specs.Fields.{Value}
-use Rattle.layout.specs.Outcomes.{Reason, reason, Outcome, refused, read, refusal, refusedBy, ifRead, firstOf, firstRefusal, noRefusal, headReasons, openingReasons, totalReasons, templateReasons}
+use Rattle.layout.specs.Outcomes.{Reason, reason, Outcome, refused, read, refusal, refusalOf, refusedBy, ifRead, firstOf, firstRefusal, noRefusal, headReasons, openingReasons, totalReasons, templateReasons}
 use Rattle.layout.specs.declared.Refusal.{Refusal}
 use Rattle.layout.proofs.Ranges.{test-same, same-test}
 
@@ -59,6 +59,16 @@ by-refusal section (r ∷ rs) o p = by-holding (firstRefusal section rs) (by-ref
         → let y = cond t (refusal (r .number) section (r .place)) x in cond t (refused (r .number) section (r .place)) other ≡ cond (eqb (y .number) 0) o (refusedBy y)
     by-holding x rest true n = rw (n refl)
     by-holding x rest false n = rest
+
+-- which is the outcome's where nothing else refuses
+pub refusal-first : (section : ℕ) (rs : List Reason) (vs : List Value) → firstRefusal section rs ≡ refusalOf (firstOf section rs (read vs))
+unfolding firstOf firstRefusal
+refusal-first section [] vs = refl
+refusal-first section (r ∷ rs) vs = by-holding (firstOf section rs (read vs)) (refusal-first section rs vs) (r .holds)
+  where
+    by-holding : {x : Refusal} (o : Outcome) → x ≡ refusalOf o → (t : Bool) → cond t (refusal (r .number) section (r .place)) x ≡ refusalOf (cond t (refused (r .number) section (r .place)) o)
+    by-holding o rest true = refl
+    by-holding o rest false = rest
 
 -- and one list and then another is the first of the one, or else of the other
 pub refusal-append : (section : ℕ) (a b : List Reason) → Numbered a → firstRefusal section (a ++ b) ≡ cond (eqb (firstRefusal section a .number) 0) (firstRefusal section b) (firstRefusal section a)

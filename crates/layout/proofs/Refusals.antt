@@ -4,16 +4,16 @@ use Prim.Native.Nat.{ℕ, _≤_}
 use native.Mathlib.Omega.{arith}
 use mathlib.Core.Path.{_≡_, refl, sym, subst}
 use mathlib.Core.Logic.{_⊎_, inl, inr}
-use mathlib.Core.List.{List, [], _∷_}
+use mathlib.Core.List.{List, [], _∷_, _++_}
 use mathlib.Core.Bool.{Bool, true, false, not, cond, true≢false, _&&_}
 use lib.Dec.{leb, ltb, eqb}
 use lib.ListN.{length}
 use borrow.Author.Tests.{eqb-true, eq-eqb, leb-true, ltb-false}
 use Rattle.layout.specs.Fields.{Field, held, said, shown, allowed, FieldAt, badPlace, lowestBad, rawAt}
-use Rattle.layout.specs.Outcomes.{Outcome, refused, read, refusal, refusedBy, Reason, reason, badField, firstOf, firstRefusal, noRefusal, andThen, headReasons, openingReasons, totalReasons, templateReasons}
+use Rattle.layout.specs.Outcomes.{Outcome, refused, read, refusal, refusedBy, Reason, reason, firstOf, firstRefusal, noRefusal, andThen, headReasons, openingReasons, totalReasons, templateReasons}
 use Rattle.layout.specs.Refusals.{Row, row, oneOf, numbersOf, hasPlace, lastPlace, Listed}
 use Rattle.layout.specs.declared.Refusal.{Refusal}
-use Rattle.layout.proofs.Outcomes.{NoneHold, first-append}
+use Rattle.layout.proofs.Outcomes.{NoneHold, either}
 use Rattle.layout.proofs.Ranges.{both-hold}
 
 -- a test holds or it does not
@@ -76,70 +76,102 @@ then-refuses table (read vs) next p q = q
 pub placeless : (table : List Row) (number section : ℕ) → oneOf (numbersOf table section) number ≡ true → hasPlace number ≡ false → Listed table (refusal number section 0)
 placeless table number section l p = record { listed = l; placed = record { given = sym p; within = omega arith } }
 
--- each reason that holds is listed
+-- each reason is listed where it is the first that holds
 unfoldable pub AllListed : List Row → ℕ → List Reason → Type 0
 AllListed table section [] = Unit {0}
-AllListed table section (r ∷ rs) = (r .holds ≡ true → Listed table (refusal (r .number) section (r .place))) × AllListed table section rs
+AllListed table section (r ∷ rs) = (r .holds ≡ true → Listed table (refusal (r .number) section (r .place))) × (r .holds ≡ false → AllListed table section rs)
 
 -- a refusal of `firstOf` is one of its reasons, or comes where none holds
 pub first-refuses : (table : List Row) (section : ℕ) (rs : List Reason) (o : Outcome) → AllListed table section rs → (NoneHold rs → Refuses table o) → Refuses table (firstOf section rs o)
 unfolding firstOf AllListed NoneHold
 first-refuses table section [] o p q = q tt
 first-refuses table section (r ∷ rs) o p q =
-    by-test (λ (t : Bool). r .holds ≡ t → Refuses table (cond t (refused (r .number) section (r .place)) (firstOf section rs o))) (r .holds)
-    (λ h e. p .0 h) (λ h e. first-refuses table section rs o (p .1) (λ none. q (h, none))) refl
+    by-test (λ (t : Bool). Refuses table (cond t (refused (r .number) section (r .place)) (firstOf section rs o))) (r .holds)
+    (p .0) (λ h. first-refuses table section rs o (p .1 h) (λ none. q (h, none)))
 
--- one reason of no place
+-- and a program that is told the first is told none, or one that is listed
+pub first-listed : (table : List Row) (section : ℕ) (rs : List Reason) → AllListed table section rs → (firstRefusal section rs ≡ noRefusal) ⊎ Listed table (firstRefusal section rs)
+unfolding firstRefusal AllListed
+first-listed table section [] p = inl refl
+first-listed table section (r ∷ rs) p =
+    by-test (λ (t : Bool). let x = cond t (refusal (r .number) section (r .place)) (firstRefusal section rs) in (x ≡ noRefusal) ⊎ Listed table x) (r .holds)
+    (λ h. inr (p .0 h)) (λ h. first-listed table section rs (p .1 h))
+
+-- a reason of no place, and others
+reason-listed : (table : List Row) (section number : ℕ) (holds : Bool) (rs : List Reason) → oneOf (numbersOf table section) number ≡ true → hasPlace number ≡ false → AllListed table section rs → AllListed table section (reason number holds ∷ rs)
+unfolding AllListed
+reason-listed table section number holds rs l p rest = ((λ h. placeless table number section l p), (λ h. rest))
+
+-- it alone
 pub reason-refuses : (table : List Row) (section number : ℕ) (holds : Bool) (o : Outcome) → oneOf (numbersOf table section) number ≡ true → hasPlace number ≡ false → Refuses table o → Refuses table (firstOf section (reason number holds ∷ []) o)
 unfolding AllListed
 reason-refuses table section number holds o l p q =
-    first-refuses table section (reason number holds ∷ []) o ((λ h. placeless table number section l p), tt) (λ none. q)
+    first-refuses table section (reason number holds ∷ []) o (reason-listed table section number holds [] l p tt) (λ none. q)
 
 -- ---- by the reasons that the sections share
 
--- 1 to 4, the numbers of every section's head
+-- 1 to 4, the numbers of every section's head; then 5
 abbrev pub headNumbers : List ℕ
 headNumbers = 1 ∷ 2 ∷ 3 ∷ 4 ∷ []
 
-head-listed : (table : List Row) (section : ℕ) (s : List ℕ) → allOf (numbersOf table section) headNumbers ≡ true → AllListed table section (headReasons section s)
-unfolding AllListed
-head-listed table section s a =
-    let one : (n : ℕ) → oneOf headNumbers n ≡ true → hasPlace n ≡ false → Listed table (refusal n section 0) = λ n e p. placeless table n section (all-of (numbersOf table section) headNumbers n a e) p in
-    ((λ h. one 1 refl refl), ((λ h. one 2 refl refl), ((λ h. one 3 refl refl), ((λ h. one 4 refl refl), tt))))
+abbrev pub openingNumbers : List ℕ
+openingNumbers = 5 ∷ headNumbers
 
--- what follows is a section of no more than 65,536 octets
-pub head-refuses : (table : List Row) (section : ℕ) (s : List ℕ) (o : Outcome) → allOf (numbersOf table section) headNumbers ≡ true → (length s ≤ 65536 → Refuses table o) → Refuses table (firstOf section (headReasons section s) o)
-unfolding NoneHold
-head-refuses table section s o a q =
-    first-refuses table section (headReasons section s) o (head-listed table section s a) (λ none. q (ltb-false _ _ (none .1 .0)))
+-- once the template is known, beside the section's own
+abbrev pub templateNumbers : List ℕ
+templateNumbers = 7 ∷ 8 ∷ 11 ∷ []
 
-pub opening-refuses : (table : List Row) (section least : ℕ) (s : List ℕ) (o : Outcome) → allOf (numbersOf table section) (5 ∷ headNumbers) ≡ true → (length s ≤ 65536 → Refuses table o) → Refuses table (firstOf section (openingReasons section least s) o)
-unfolding openingReasons
-opening-refuses table section least s o a q =
-    let five = reason 5 (ltb (length s) least) ∷ [] in
+-- a number that the table lists for a section
+abbrev Has : List Row → ℕ → ℕ → Type 0
+Has table section n = oneOf (numbersOf table section) n ≡ true
+
+head-listed : (table : List Row) (section : ℕ) (s : List ℕ) (rs : List Reason) → allOf (numbersOf table section) headNumbers ≡ true → AllListed table section rs → AllListed table section (headReasons section s ++ rs)
+head-listed table section s rs a rest =
+    let has : (n : ℕ) → oneOf headNumbers n ≡ true → Has table section n = λ n e. all-of (numbersOf table section) headNumbers n a e in
+    reason-listed table section 1 _ _ (has 1 refl) refl
+    (reason-listed table section 2 _ _ (has 2 refl) refl
+    (reason-listed table section 3 _ _ (has 3 refl) refl
+    (reason-listed table section 4 _ _ (has 4 refl) refl rest)))
+
+opening-listed : (table : List Row) (section least : ℕ) (s : List ℕ) → allOf (numbersOf table section) openingNumbers ≡ true → AllListed table section (openingReasons section least s)
+unfolding openingReasons AllListed
+opening-listed table section least s a =
     let parts = both-hold _ _ a in
-    rw (first-append section (headReasons section s) five o)
-    (head-refuses table section s (firstOf section five o) (parts .1) (λ small. reason-refuses table section 5 (ltb (length s) least) o (parts .0) refl (q small)))
+    head-listed table section s (reason 5 (ltb (length s) least) ∷ []) (parts .1) (reason-listed table section 5 _ [] (parts .0) refl tt)
 
 -- the lowest bad field starts within the smallest total, so with 8 the place is an octet of the section
-pub template-refuses : (table : List Row) (section smallest bad own total : ℕ) (s : List ℕ) (o : Outcome) → allOf (numbersOf table section) (7 ∷ 8 ∷ 11 ∷ []) ≡ true → oneOf (0 ∷ numbersOf table section) own ≡ true → hasPlace own ≡ false → bad ≤ smallest → length s ≤ 65536 → Refuses table o → Refuses table (firstOf section (templateReasons smallest bad own total s) o)
-unfolding templateReasons totalReasons firstOf AllListed NoneHold
-template-refuses table section smallest bad own total s o a l p b small q =
-    let numbers = numbersOf table section in
-    let listed : (n : ℕ) → oneOf (7 ∷ 8 ∷ 11 ∷ []) n ≡ true → oneOf numbers n ≡ true = λ n e. all-of numbers (7 ∷ 8 ∷ 11 ∷ []) n a e in
-    first-refuses table section (reason 7 (ltb (length s) smallest) ∷ []) (firstOf section (badField bad ∷ reason own (not (eqb own 0)) ∷ totalReasons total s) o)
-    ((λ h. placeless table 7 section (listed 7 refl) refl), tt)
-    (λ long. first-refuses table section (badField bad ∷ reason own (not (eqb own 0)) ∷ totalReasons total s) o (
-      (λ h. record { listed = listed 8 refl; placed = record { given = h; within = omega (arith, ltb-false (length s) smallest (long .0)) } }),
-      (
-        (λ h. placeless table own section (own-listed own l h) p),
-        ((λ h. placeless table 11 section (listed 11 refl) refl), tt),
+template-listed : (table : List Row) (section smallest bad own total : ℕ) (s : List ℕ) → allOf (numbersOf table section) templateNumbers ≡ true → oneOf (0 ∷ numbersOf table section) own ≡ true → hasPlace own ≡ false → bad ≤ smallest → length s ≤ 65536 → AllListed table section (templateReasons smallest bad own total s)
+unfolding templateReasons totalReasons AllListed
+template-listed table section smallest bad own total s a l p b small =
+    let has : (n : ℕ) → oneOf templateNumbers n ≡ true → Has table section n = λ n e. all-of (numbersOf table section) templateNumbers n a e in (
+      (λ h. placeless table 7 section (has 7 refl) refl),
+      λ long. (
+        (λ h. record { listed = has 8 refl; placed = record { given = h; within = omega (arith, ltb-false (length s) smallest long) } }),
+        λ fine. (
+          (λ h. placeless table own section (met own l h) p),
+          λ kept. reason-listed table section 11 _ [] (has 11 refl) refl tt,
+        ),
       ),
-    ) (λ none. q))
+    )
   where
-    own-listed : (n : ℕ) → oneOf (0 ∷ numbersOf table section) n ≡ true → not (eqb n 0) ≡ true → oneOf (numbersOf table section) n ≡ true
-    own-listed n l h = by-test (λ (t : Bool). not t ≡ true → cond t true (oneOf (numbersOf table section) n) ≡ true → oneOf (numbersOf table section) n ≡ true) (eqb n 0)
+    met : (n : ℕ) → oneOf (0 ∷ numbersOf table section) n ≡ true → not (eqb n 0) ≡ true → Has table section n
+    met n l h = by-test (λ (t : Bool). not t ≡ true → cond t true (oneOf (numbersOf table section) n) ≡ true → Has table section n) (eqb n 0)
         (λ e h l. absurd (true≢false (sym h))) (λ e h l. l) h l
+
+-- what follows the head is a section of no more than 65,536 octets
+pub head-refuses : (table : List Row) (section : ℕ) (s : List ℕ) (o : Outcome) → allOf (numbersOf table section) headNumbers ≡ true → (length s ≤ 65536 → Refuses table o) → Refuses table (firstOf section (headReasons section s) o)
+unfolding AllListed NoneHold
+head-refuses table section s o a q =
+    first-refuses table section (headReasons section s) o (head-listed table section s [] a tt) (λ none. q (ltb-false _ _ (none .1 .0)))
+
+pub opening-refuses : (table : List Row) (section least : ℕ) (s : List ℕ) (o : Outcome) → allOf (numbersOf table section) openingNumbers ≡ true → (length s ≤ 65536 → Refuses table o) → Refuses table (firstOf section (openingReasons section least s) o)
+unfolding openingReasons NoneHold
+opening-refuses table section least s o a q =
+    first-refuses table section (openingReasons section least s) o (opening-listed table section least s a) (λ none. q (ltb-false _ _ (none .1 .0)))
+
+pub template-refuses : (table : List Row) (section smallest bad own total : ℕ) (s : List ℕ) (o : Outcome) → allOf (numbersOf table section) templateNumbers ≡ true → oneOf (0 ∷ numbersOf table section) own ≡ true → hasPlace own ≡ false → bad ≤ smallest → length s ≤ 65536 → Refuses table o → Refuses table (firstOf section (templateReasons smallest bad own total s) o)
+template-refuses table section smallest bad own total s o a l p b small q =
+    first-refuses table section (templateReasons smallest bad own total s) o (template-listed table section smallest bad own total s a l p b small) (λ none. q)
 
 -- ---- where the lowest bad field starts
 
@@ -170,22 +202,33 @@ bad-below last (p ∷ ps) s b =
     by (said v) x e rest = rest
     by (shown w) x e rest = rest
 
--- ---- a refusal that a program is told
+-- ---- the refusal that a reader is told: none, or one of the numbers
 
--- none, or one that is listed
-pub first-listed : (table : List Row) (section : ℕ) (rs : List Reason) → AllListed table section rs → (firstRefusal section rs ≡ noRefusal) ⊎ Listed table (firstRefusal section rs)
-unfolding firstRefusal AllListed
-first-listed table section [] p = inl refl
-first-listed table section (r ∷ rs) p =
-    by-test (λ (t : Bool). let x = cond t (refusal (r .number) section (r .place)) (firstRefusal section rs) in (x ≡ noRefusal) ⊎ Listed table x) (r .holds)
-    (λ h. inr (p .0 h)) (λ h. first-listed table section rs (p .1))
-
-pub head-refusal-listed : (section : ℕ) (s : List ℕ) → let x = firstRefusal section (headReasons section s) in (x ≡ noRefusal) ⊎ Listed (row section headNumbers ∷ []) x
-head-refusal-listed section s =
+pub head-told : (section : ℕ) (s : List ℕ) → let x = firstRefusal section (headReasons section s) in (x ≡ noRefusal) ⊎ Listed (row section headNumbers ∷ []) x
+unfolding AllListed
+head-told section s =
     let table = row section headNumbers ∷ [] in
-    first-listed table section (headReasons section s) (head-listed table section s (rw (eq-eqb section section refl)))
+    first-listed table section (headReasons section s) (head-listed table section s [] (rw (eq-eqb section section refl)) tt)
 
--- what a refusal as one number needs: its number is not 0, and there is room for its place
+pub opening-told : (section least : ℕ) (s : List ℕ) → let x = firstRefusal section (openingReasons section least s) in (x ≡ noRefusal) ⊎ Listed (row section openingNumbers ∷ []) x
+opening-told section least s =
+    let table = row section openingNumbers ∷ [] in
+    first-listed table section (openingReasons section least s) (opening-listed table section least s (rw (eq-eqb section section refl)))
+
+-- with an own number that has no place, of a section that has passed its head
+pub template-told : (section smallest bad own total : ℕ) (s : List ℕ) → hasPlace own ≡ false → bad ≤ smallest → length s ≤ 65536
+    → let x = firstRefusal section (templateReasons smallest bad own total s) in (x ≡ noRefusal) ⊎ Listed (row section (7 ∷ 8 ∷ 11 ∷ own ∷ []) ∷ []) x
+template-told section smallest bad own total s p b small =
+    let table = row section (7 ∷ 8 ∷ 11 ∷ own ∷ []) ∷ [] in
+    let P : Bool → Type 0 = λ t. t ≡ true in
+    first-listed table section (templateReasons smallest bad own total s)
+    (template-listed table section smallest bad own total s (rw (eq-eqb section section refl))
+    (rw (eq-eqb section section refl, eq-eqb own own refl) (either P (eqb own 0) refl (either P (eqb own 7) refl (either P (eqb own 8) refl (either P (eqb own 11) refl refl)))))
+    p b small)
+
+-- ---- as one number
+
+-- what it needs: its number is not 0, and there is room for its place
 abbrev pub Proper : Outcome → Type 0
 Proper (refused number section place) = (number ≡ 0 → ⊥) × (place ≤ lastPlace)
 Proper (read vs) = Unit {0}
