@@ -25,3 +25,7 @@ agreedWithList s = between 1 2 (interpretation s) && (missingWith 31 64 35 s || 
 -- width 0 without a list, or 1, 2 or 4 with one
 unfoldable pub agreed : List ℕ → Bool
 agreed s = cond (eqb (listWidth s) 0) (agreedWithoutList s) (hasList (listWidth s) && agreedWithList s)
+
+-- 10 where they do not agree, and else 0
+abbrev pub disagreement : List ℕ → ℕ
+disagreement s = cond (not (agreed s)) 10 0

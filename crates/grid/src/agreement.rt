@@ -1,10 +1,17 @@
 // 10: the width, Ni, Nj, Di, Dj and octet 12 agree.
 ghost use mathlib.Core.Path.{_≡_};
-ghost use Rattle.grid.specs.Agreement.{missingWith, agreedWithoutList, agreedWithList, agreed};
+ghost use Rattle.grid.specs.Agreement.{missingWith, agreedWithoutList, agreedWithList, agreed, disagreement};
 use crate::templates::has_list;
 use crate::templates::missing;
 
-pub(crate) fn agrees(section: &[u8]) -> bool
+// 10 where they do not agree, and else 0.
+pub(crate) fn disagreement(section: &[u8]) -> u8
+    ensures { λ r. ⌜ r ≡ disagreement (now (section .entry)) ⌝ }
+{
+    if agrees(section) { 0 } else { 10 }
+}
+
+fn agrees(section: &[u8]) -> bool
     ensures { λ r. ⌜ r ≡ agreed (now (section .entry)) ⌝ }
 {
     let width = octets::u8_at(section, 11);

@@ -1,12 +1,10 @@
 // Section 3: the grid, templates 3.0 to 3.3, and the list behind it.
 ghost use mathlib.Core.Path.{_≡_};
-ghost use Rattle.layout.specs.Outcomes.{refused};
-ghost use Rattle.grid.specs.Section3.{outcome₃, asTemplate, fitting, told, refusalIn};
-use agreement::agrees;
+ghost use Rattle.grid.specs.Section3.{outcome₃, asTemplate, told, refusalIn};
+use agreement::disagreement;
 use bad_field::bad_place;
 use layout::Refusal;
-use points::points_of;
-use points::product_above;
+use points::points_refusal;
 use templates::base_end;
 use templates::template_numbered;
 use templates::total_of;
@@ -37,16 +35,13 @@ pub enum Answer {
 pub fn read(section: &[u8]) -> Answer
     ensures { λ r. ⌜ told r ≡ outcome₃ (now (section .entry)) ⌝ }
 {
-    let head = layout::head_refusal(section, 3);
-    if head != 0 {
-        return refusal(head, 0);
-    }
-    if section.len() < 14 {
-        return refusal(5, 0);
+    let refused = layout::opening_refusal(section, 3, 14);
+    if refused.number != 0 {
+        return Answer::Refused(refused);
     }
     let number = octets::u16_at(section, 13);
     if 3 < number {
-        return refusal(6, 0);
+        return Answer::Refused(Refusal::of(6, 3));
     }
     read_as(section, template_numbered(number))
 }
@@ -57,53 +52,25 @@ pub fn refusal_of(answer: Answer) -> Refusal
 {
     match answer {
         Answer::Refused(x) => x,
-        Answer::Read(_) => Refusal {
-            number: 0,
-            section: 0,
-            place: 0,
-        },
+        Answer::Read(_) => Refusal::none(),
     }
 }
 
-fn refusal(number: u8, place: usize) -> Answer
-    ensures { λ r. ⌜ told r ≡ refused number 3 place ⌝ }
-{
-    Answer::Refused(Refusal {
-        number,
-        section: 3,
-        place,
-    })
-}
-
-// The rest of the reading, once the template is known.
+// The rest of the reading, once the template is known. The list is summed up only where the section has its total.
 fn read_as(section: &[u8], template: Template) -> Answer
     ensures { λ r. ⌜ told r ≡ asTemplate template (now (section .entry)) ⌝ }
 {
-    if section.len() < base_end(template) {
-        return refusal(7, 0);
-    }
+    let smallest = base_end(template);
     let bad = bad_place(section, template);
-    if bad != 0 {
-        return refusal(8, bad);
+    let own = disagreement(section);
+    let total = total_of(section, template);
+    let refused = layout::template_refusal(section, 3, smallest, bad, own, total);
+    if refused.number != 0 {
+        return Answer::Refused(refused);
     }
-    read_fitting(section, template)
-}
-
-// The rest of the reading, once each field is in its range: they have to fit together.
-fn read_fitting(section: &[u8], template: Template) -> Answer
-    ensures { λ r. ⌜ told r ≡ fitting template (now (section .entry)) ⌝ }
-{
-    if !agrees(section) {
-        return refusal(10, 0);
-    }
-    if section.len() != total_of(section, template) {
-        return refusal(11, 0);
-    }
-    if product_above(section) {
-        return refusal(12, 0);
-    }
-    if octets::u32_at(section, 7) as u64 != points_of(section, template) {
-        return refusal(13, 0);
+    let by_points = points_refusal(section, template);
+    if by_points.number != 0 {
+        return Answer::Refused(by_points);
     }
     Answer::Read(Grid::of_section(section, template))
 }

@@ -2,15 +2,30 @@
 ghost use mathlib.Core.Path.{_≡_};
 ghost use mathlib.Core.Bool.{true};
 ghost use Rattle.octets.specs.Octets.{beAt};
+ghost use Rattle.layout.specs.Outcomes.{firstRefusal};
 ghost use Rattle.grid.specs.Blocks.{hasList};
 ghost use Rattle.grid.specs.Agreement.{agreed};
-ghost use Rattle.grid.specs.Points.{productAbove, sumOf, pointsOf};
+ghost use Rattle.grid.specs.Points.{productAbove, sumOf, pointsOf, pointsReasons};
 use crate::templates::Template;
 use crate::templates::base_end;
 use crate::templates::list_count;
+use layout::Refusal;
+
+// The first of them that is met, of numbers that agree; what it answers of others is of no use: they are refused before.
+pub(crate) fn points_refusal(section: &[u8], template: Template) -> Refusal
+    ensures { λ r. ⌜ (agreed (now (section .entry)) ≡ true → r ≡ firstRefusal 3 (pointsReasons template (now (section .entry)))) ⌝ }
+{
+    if product_above(section) {
+        return Refusal::of(12, 3);
+    }
+    if octets::u32_at(section, 7) as u64 != points_of(section, template) {
+        return Refusal::of(13, 3);
+    }
+    Refusal::none()
+}
 
 // Whether there is no list and Ni x Nj is above 64 bits: then Nj is more than the largest number divided by Ni.
-pub(crate) fn product_above(section: &[u8]) -> bool
+fn product_above(section: &[u8]) -> bool
     ensures { λ r. ⌜ r ≡ productAbove (now (section .entry)) ⌝ }
 {
     if octets::u8_at(section, 11) != 0 {
@@ -25,8 +40,8 @@ pub(crate) fn product_above(section: &[u8]) -> bool
     most < (nj as u64)
 }
 
-// Ni x Nj, or the sum of the list. What it answers where the numbers do not agree is of no use: they are refused before.
-pub(crate) fn points_of(section: &[u8], template: Template) -> u64
+// Ni x Nj, or the sum of the list.
+fn points_of(section: &[u8], template: Template) -> u64
     ensures { λ r. ⌜ (agreed (now (section .entry)) ≡ true → r ≡ pointsOf template (now (section .entry))) ⌝ }
 {
     let width = octets::u8_at(section, 11);

@@ -4,3 +4,4 @@ pub mod FieldsCoverOnce
 pub mod AcceptedExactlyWhen
 pub mod ViewsAreTheLayouts
 pub mod AnswersDetermined
+pub mod RefusalNumbers

@@ -4,3 +4,4 @@ pub mod Section4
 pub mod Views
 pub mod Accepted
 pub mod Examples
+pub mod Refused

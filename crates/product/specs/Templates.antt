@@ -4,7 +4,7 @@ use mathlib.Core.List.{List, [], _∷_, _++_}
 use Rattle.layout.specs.Fields.{Value, Field, lacking, tag, shown, after, valuesOf}
 use Prim.Native.Nat.{ℕ, _+_, _*_}
 use mathlib.Core.Path.{_≡_}
-use mathlib.Core.Bool.{Bool, true, false, cond}
+use mathlib.Core.Bool.{Bool, true, false, cond, _&&_}
 use lib.Dec.{eqb}
 use Rattle.octets.specs.Octets.{beAt}
 use Rattle.product.specs.Blocks.{head, parameter, common, ensemble, cluster, probability, aerosol, interval, tagIn, aheadIn, behindIn}
@@ -99,6 +99,10 @@ total kind timed n nc nv = rangesEnd kind timed n + nc + 4 * nv
 -- n, Nc and NV; 0 where the template has none
 unfoldable pub rangesAt : PartKind → Bool → List ℕ → ℕ
 rangesAt kind timed s = cond timed (beAt s (partEnd kind + 8) 1) 0
+
+-- 9 where time ranges should be there and n is 0, and else 0
+abbrev pub lackOfRanges : Bool → ℕ → ℕ
+lackOfRanges timed n = cond (timed && eqb n 0) 9 0
 
 abbrev pub membersAt : PartKind → List ℕ → ℕ
 membersAt noPart s = 0

@@ -1,12 +1,10 @@
 // Section 4: the product, by templates 4.0, 4.1, 4.4, 4.5, 4.8, 4.9, 4.11, 4.14 and 4.46. Every function takes every input.
 ghost use mathlib.Core.Path.{_≡_};
-ghost use Rattle.layout.specs.Outcomes.{refused, read, firstOf};
-ghost use Rattle.product.specs.Templates.{values₄};
-ghost use Rattle.product.specs.Section4.{countReasons, asTemplate, outcome₄, told, refusalIn};
+ghost use Rattle.product.specs.Section4.{asTemplate, outcome₄, told, refusalIn};
 use bad_field::bad_place;
 use blocks::record_of;
 use layout::Refusal;
-use templates::lacks_ranges;
+use templates::lack_of_ranges;
 use templates::member_count;
 use templates::range_count;
 use templates::template_of;
@@ -48,16 +46,13 @@ pub enum Answer {
 pub fn read(section: &[u8]) -> Answer
     ensures { λ r. ⌜ told r ≡ outcome₄ (now (section .entry)) ⌝ }
 {
-    let head = layout::head_refusal(section, 4);
-    if head != 0 {
-        return refusal(head, 0);
-    }
-    if section.len() < 9 {
-        return refusal(5, 0);
+    let refused = layout::opening_refusal(section, 4, 9);
+    if refused.number != 0 {
+        return Answer::Refused(refused);
     }
     let template = template_of(octets::u16_at(section, 8));
     let Template::Listed { kind, timed } = template else {
-        return refusal(6, 0);
+        return Answer::Refused(Refusal::of(6, 4));
     };
     read_as(section, kind, timed)
 }
@@ -68,50 +63,24 @@ pub fn refusal_of(answer: Answer) -> Refusal
 {
     match answer {
         Answer::Refused(x) => x,
-        Answer::Read(_) => Refusal {
-            number: 0,
-            section: 0,
-            place: 0,
-        },
+        Answer::Read(_) => Refusal::none(),
     }
-}
-
-fn refusal(number: u8, place: usize) -> Answer
-    ensures { λ r. ⌜ told r ≡ refused number 4 place ⌝ }
-{
-    Answer::Refused(Refusal {
-        number,
-        section: 4,
-        place,
-    })
 }
 
 // The rest of the reading, once the template is known.
 fn read_as(section: &[u8], kind: PartKind, timed: bool) -> Answer
     ensures { λ r. ⌜ told r ≡ asTemplate kind timed (now (section .entry)) ⌝ }
 {
-    if section.len() < total_of(kind, timed, 1, 0, 0) {
-        return refusal(7, 0);
-    }
+    let smallest = total_of(kind, timed, 1, 0, 0);
     let bad = bad_place(section, kind, timed);
-    if bad != 0 {
-        return refusal(8, bad);
-    }
-    read_counted(section, kind, timed)
-}
-
-// The tests of n and of the total, once every field is in its range.
-fn read_counted(section: &[u8], kind: PartKind, timed: bool) -> Answer
-    ensures { λ r. ⌜ told r ≡ firstOf 4 (countReasons kind timed (now (section .entry))) (read (values₄ kind timed (now (section .entry)))) ⌝ }
-{
     let ranges = range_count(section, kind, timed);
-    if lacks_ranges(timed, ranges) {
-        return refusal(9, 0);
-    }
+    let own = lack_of_ranges(timed, ranges);
     let members = member_count(section, kind);
     let coordinates = octets::u16_at(section, 6);
-    if section.len() != total_of(kind, timed, ranges, members, coordinates) {
-        return refusal(11, 0);
+    let total = total_of(kind, timed, ranges, members, coordinates);
+    let refused = layout::template_refusal(section, 4, smallest, bad, own, total);
+    if refused.number != 0 {
+        return Answer::Refused(refused);
     }
     Answer::Read(record_of(section, kind, timed))
 }

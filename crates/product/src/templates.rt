@@ -1,8 +1,6 @@
 // The templates of section 4: the part that each has, where its blocks and lists end, and the total.
 ghost use mathlib.Core.Path.{_≡_};
-ghost use mathlib.Core.Bool.{_&&_};
-ghost use lib.Dec.{eqb};
-ghost use Rattle.product.specs.Templates.{templateOf, frontEnd, partEnd, rangesEnd, total, rangesAt, membersAt};
+ghost use Rattle.product.specs.Templates.{templateOf, frontEnd, partEnd, rangesEnd, total, rangesAt, lackOfRanges, membersAt};
 
 // Which part a template has.
 pub enum PartKind {
@@ -101,11 +99,15 @@ pub(crate) fn range_count(section: &[u8], kind: PartKind, timed: bool) -> u8
     if timed { octets::u8_at(section, at) } else { 0 }
 }
 
-// Whether time ranges should be there and n is 0.
-pub(crate) fn lacks_ranges(timed: bool, ranges: u8) -> bool
-    ensures { λ r. ⌜ r ≡ timed && eqb ranges 0 ⌝ }
+// 9 where time ranges should be there and n is 0, and else 0.
+pub(crate) fn lack_of_ranges(timed: bool, ranges: u8) -> u8
+    ensures { λ r. ⌜ r ≡ lackOfRanges timed ranges ⌝ }
 {
-    if timed { ranges == 0 } else { false }
+    if timed {
+        if ranges == 0 { 9 } else { 0 }
+    } else {
+        0
+    }
 }
 
 // Nc, and 0 where the template has no members.
