@@ -7,7 +7,7 @@ use Prim.Native.Nat.{ℕ, _≤_}
 use native.Mathlib.Omega.{arith}
 use lib.Dec.{eqb, ltb}
 use lib.ListN.{length}
-use borrow.Author.Tests.{le-ltb, ltb-false, not-true}
+use borrow.Author.Tests.{le-ltb, ltb-false, eqb-false, not-true}
 use Rattle.octets.specs.Octets.{beAt}
 use Rattle.layout.specs.Fields.{Value}
 use Rattle.layout.specs.Outcomes.{Reason, reason, Outcome, refused, read, refusal, refusalOf, refusedBy, ifRead, firstOf, firstRefusal, noRefusal, headReasons, openingReasons, totalReasons, templateReasons}
@@ -49,18 +49,34 @@ unfoldable pub Numbered : List Reason → Type 0
 Numbered [] = Unit {0}
 Numbered (r ∷ rs) = (r .holds ≡ true → eqb (r .number) 0 ≡ false) × Numbered rs
 
+-- the number of `x` tells whether it is one, and so it does with one reason more
+with-one-more : {A : Type 0} (tell : Refusal → A) (o : A) (x y : Refusal) {rest : A} → rest ≡ cond (eqb (x .number) 0) o (tell x) → (t : Bool) → (t ≡ true → eqb (y .number) 0 ≡ false) → let z = cond t y x in cond t (tell y) rest ≡ cond (eqb (z .number) 0) o (tell z)
+with-one-more tell o x y e true n = rw (n refl)
+with-one-more tell o x y e false n = e
+
 -- so the number tells whether there is one
 pub by-refusal : (section : ℕ) (rs : List Reason) (o : Outcome) → Numbered rs → firstOf section rs o ≡ cond (eqb (firstRefusal section rs .number) 0) o (refusedBy (firstRefusal section rs))
 unfolding firstOf firstRefusal Numbered
 by-refusal section [] o p = refl
-by-refusal section (r ∷ rs) o p = by-holding (firstRefusal section rs) (by-refusal section rs o (p .1)) (r .holds) (p .0)
-  where
-    by-holding : (x : Refusal) {other : Outcome} → other ≡ cond (eqb (x .number) 0) o (refusedBy x) → (t : Bool) → (t ≡ true → eqb (r .number) 0 ≡ false)
-        → let y = cond t (refusal (r .number) section (r .place)) x in cond t (refused (r .number) section (r .place)) other ≡ cond (eqb (y .number) 0) o (refusedBy y)
-    by-holding x rest true n = rw (n refl)
-    by-holding x rest false n = rest
+by-refusal section (r ∷ rs) o p =
+    with-one-more refusedBy o (firstRefusal section rs) (refusal (r .number) section (r .place)) (by-refusal section rs o (p .1)) (r .holds) (p .0)
 
--- which is the outcome's where nothing else refuses
+-- it is 0 where none holds, and where it is 0 none does
+pub none-refusal : (section : ℕ) (rs : List Reason) → NoneHold rs → firstRefusal section rs ≡ noRefusal
+unfolding firstRefusal NoneHold
+none-refusal section [] h = refl
+none-refusal section (r ∷ rs) h = rw (h .0) (none-refusal section rs (h .1))
+
+pub zero-none : (section : ℕ) (rs : List Reason) → Numbered rs → firstRefusal section rs .number ≡ 0 → NoneHold rs
+unfolding firstRefusal NoneHold Numbered
+zero-none section [] p e = tt
+zero-none section (r ∷ rs) p e = by-holding (zero-none section rs (p .1)) (r .holds) refl e
+  where
+    by-holding : (firstRefusal section rs .number ≡ 0 → NoneHold rs) → (t : Bool) → r .holds ≡ t → cond t (refusal (r .number) section (r .place)) (firstRefusal section rs) .number ≡ 0 → (r .holds ≡ false) × NoneHold rs
+    by-holding rest true h e = absurd (eqb-false (r .number) 0 (p .0 h) e)
+    by-holding rest false h e = (h, rest e)
+
+-- the first is the outcome's where nothing else refuses
 pub refusal-first : (section : ℕ) (rs : List Reason) (vs : List Value) → firstRefusal section rs ≡ refusalOf (firstOf section rs (read vs))
 unfolding firstOf firstRefusal
 refusal-first section [] vs = refl
@@ -74,12 +90,8 @@ refusal-first section (r ∷ rs) vs = by-holding (firstOf section rs (read vs)) 
 pub refusal-append : (section : ℕ) (a b : List Reason) → Numbered a → firstRefusal section (a ++ b) ≡ cond (eqb (firstRefusal section a .number) 0) (firstRefusal section b) (firstRefusal section a)
 unfolding firstRefusal Numbered
 refusal-append section [] b p = refl
-refusal-append section (r ∷ rs) b p = by-holding (firstRefusal section rs) (refusal-append section rs b (p .1)) (r .holds) (p .0)
-  where
-    by-holding : (x : Refusal) {other : Refusal} → other ≡ cond (eqb (x .number) 0) (firstRefusal section b) x → (t : Bool) → (t ≡ true → eqb (r .number) 0 ≡ false)
-        → let y = cond t (refusal (r .number) section (r .place)) x in cond t (refusal (r .number) section (r .place)) other ≡ cond (eqb (y .number) 0) (firstRefusal section b) y
-    by-holding x rest true n = rw (n refl)
-    by-holding x rest false n = rest
+refusal-append section (r ∷ rs) b p =
+    with-one-more (λ x. x) (firstRefusal section b) (firstRefusal section rs) (refusal (r .number) section (r .place)) (refusal-append section rs b (p .1)) (r .holds) (p .0)
 
 -- ---- the reasons that the sections share: none of them has the number 0
 
