@@ -25,6 +25,7 @@ use Rattle.layout.specs.Time.{time, timeIn}
 use Rattle.layout.specs.Spans.{spanAfter}
 use Rattle.identification.specs.Section1 as one
 use Rattle.grid.specs.Section3 as three
+use Rattle.grid.specs.Views.{listSpan, list₃}
 use Rattle.product.specs.Section4 as four
 use Rattle.product.specs.Views.{rangeSpan, memberSpan, coordinateSpan, rangeOf, membersOf, coordinatesOf}
 use Rattle.packing.specs.Section5 as five
@@ -81,16 +82,16 @@ use Rattle.identification.proofs.read.Reads as read₁
 use Rattle.identification.proofs.refusal_of.Reads as refusal-of₁
 use Rattle.grid.proofs.read.Reads as read₃
 use Rattle.grid.proofs.refusal_of.Reads as refusal-of₃
-use Rattle.grid.proofs.list_span.Reads as list-span
-use Rattle.grid.proofs.list.Reads as list
+use Rattle.grid.proofs.views.list_span.Reads as list-span
+use Rattle.grid.proofs.views.list.Reads as list
 use Rattle.product.proofs.read.Reads as read₄
 use Rattle.product.proofs.refusal_of.Reads as refusal-of₄
-use Rattle.product.proofs.range_span.Reads as range-span
-use Rattle.product.proofs.member_span.Reads as member-span
-use Rattle.product.proofs.coordinate_span.Reads as coordinate-span
-use Rattle.product.proofs.time_range.Reads as time-range
-use Rattle.product.proofs.member_list.Reads as member-list
-use Rattle.product.proofs.coordinate_list.Reads as coordinate-list
+use Rattle.product.proofs.views.range_span.Reads as range-span
+use Rattle.product.proofs.views.member_span.Reads as member-span
+use Rattle.product.proofs.views.coordinate_span.Reads as coordinate-span
+use Rattle.product.proofs.views.time_range.Reads as time-range
+use Rattle.product.proofs.views.member_list.Reads as member-list
+use Rattle.product.proofs.views.coordinate_list.Reads as coordinate-list
 use Rattle.packing.proofs.read.Reads as read₅
 use Rattle.packing.proofs.read_data.Reads as read₇
 use Rattle.packing.proofs.refusal_of.Reads as refusal-of₅
@@ -240,10 +241,10 @@ grid-read lent given r later e = e
 pub grid-refusal-of : (lent : _) (given : _) (r : _) (later : _) → refusal-of₃.Learnt lent given r later → r ≡ three.refusalIn (given .0)
 grid-refusal-of lent given r later e = e
 
-pub grid-list-span : (lent : _) (given : _) (r : _) (later : _) → list-span.Learnt lent given r later → r ≡ three.listSpan (now (given .0))
+pub grid-list-span : (lent : _) (given : _) (r : _) (later : _) → list-span.Learnt lent given r later → r ≡ listSpan (now (given .0))
 grid-list-span lent given r later e = e
 
-pub grid-list : (lent : _) (given : _) (r : _) (later : _) → list.Learnt lent given r later → now r ≡ three.list₃ (now (given .0))
+pub grid-list : (lent : _) (given : _) (r : _) (later : _) → list.Learnt lent given r later → now r ≡ list₃ (now (given .0))
 grid-list lent given r later e = e
 
 pub product-read : (lent : _) (given : _) (r : _) (later : _) → read₄.Learnt lent given r later → four.told r ≡ four.outcome₄ (now (given .0))

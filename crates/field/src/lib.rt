@@ -1,8 +1,8 @@
 // A whole field: five lent sections in the order 1, 3, 4, 5, 7.
 ghost use mathlib.Core.Path.{_≡_};
 ghost use Rattle.identification.specs.Section1.{valuesIn as valuesIn₁};
-ghost use Rattle.grid.specs.Section3.{valuesIn as valuesIn₃};
-ghost use Rattle.product.specs.Section4.{valuesIn as valuesIn₄};
+ghost use Rattle.grid.specs.Blocks.{valuesIn as valuesIn₃};
+ghost use Rattle.product.specs.Blocks.{valuesIn as valuesIn₄};
 ghost use Rattle.field.specs.Field.{fieldOutcome, packedOutcome, told, refusalIn};
 use grid::Grid;
 use identification::Identification;

@@ -5,3 +5,4 @@ pub mod ListShown
 pub mod StarredGrids
 pub mod FieldsByBlock
 pub mod Widths
+pub mod RefusalNumbers

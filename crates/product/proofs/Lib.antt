@@ -1,6 +1,7 @@
-pub mod Templates
+pub mod FieldsByBlock
 pub mod StarredProducts
 pub mod FieldsCoverOnce
 pub mod AcceptedExactlyWhen
 pub mod ViewsAreTheLayouts
 pub mod AnswersDetermined
+pub mod RefusalNumbers
