@@ -25,7 +25,14 @@ pub use Rattle.skogmund.proofs.Entries as skogmund-entries
 pub use Rattle.demands.proofs.OneAnswer.{one-identification, one-grid, one-product, one-packing, one-data, one-field, one-unpacking, one-filing, one-answer, one-number, one-signed, one-time, one-text, one-done}
 -- ".. or refuses with a number from document 01.": its table lists the number for the section, and the place is 0 except with 8,
 -- and then an octet that a section can have.
-pub use Rattle.refusals.proofs.RefusalNumbers.{identification-refuses, grid-refuses, product-refuses, packing-refuses, data-refuses, unpacking-refuses, field-refuses, filing-refuses, record-refuses, queue-refuses, queue-number, head-number}
+pub use Rattle.layout.proofs.Refusals.{head-told, opening-told, template-told}
+pub use Rattle.identification.proofs.RefusalNumbers.{identification-refuses}
+pub use Rattle.grid.proofs.RefusalNumbers.{grid-refuses}
+pub use Rattle.product.proofs.RefusalNumbers.{product-refuses}
+pub use Rattle.packing.proofs.RefusalNumbers.{packing-refuses, data-refuses, unpacking-refuses}
+pub use Rattle.field.proofs.RefusalNumbers.{field-refuses}
+pub use Rattle.filing.proofs.RefusalNumbers.{filing-refuses}
+pub use Rattle.queue.proofs.RefusalNumbers.{record-refuses, queue-refuses, queue-number}
 pub use Rattle.values.proofs.RecordRead.{read-into-refuses}
 -- Of the entries for C: each answers 0, or one number for a refusal that a table lists, and no two refusals have the same;
 pub use Rattle.demands.proofs.NumbersForC.{unpack-answers, read-answers, part-answers, list-answers, empty-answers, join-answers, slot-answers, field-answers, queue-answers, one-refusal}

@@ -40,22 +40,28 @@ use Rattle.identification.specs.declared.Identification.{Identification}
 use Rattle.identification.specs.declared.Template.{Template as Template₁}
 use Rattle.identification.proofs.AcceptedExactlyWhen.{accepted-exactly-when as exactly₁, accepted-follows as follows₁}
 use Rattle.identification.proofs.FieldsCoverOnce.{covered as covered₁}
+use Rattle.grid.specs.Blocks.{valuesIn as valuesIn₃, hasList}
+use Rattle.grid.specs.Templates.{fields₃, listWidth, listCount, listOctets, baseEnd, values₃}
+use Rattle.grid.specs.Points.{sumOf}
 use Rattle.grid.specs.Section3 as three
+use Rattle.grid.specs.Views.{list₃}
 use Rattle.grid.specs.Accepted.{Follows₃, NoList}
 use Rattle.grid.specs.declared.Answer.{Answer as Answer₃}
 use Rattle.grid.specs.declared.Answer.the-variants.{Read as Read₃}
-use Rattle.grid.specs.declared.Grid.{Grid}
-use Rattle.grid.specs.declared.Template.{Template as Template₃}
+use Rattle.grid.specs.declared.blocks.Grid.{Grid}
+use Rattle.grid.specs.declared.templates.Template.{Template as Template₃}
 use Rattle.grid.proofs.AcceptedExactlyWhen.{accepted-exactly-when as exactly₃, accepted-follows as follows₃, all-fits}
 use Rattle.grid.proofs.FieldsCoverOnce.{covered as covered₃}
 use Rattle.grid.proofs.ListShown.{those-very-octets, without-a-list, points-are-its-sum, refused-shows-none}
+use Rattle.product.specs.Blocks.{valuesIn as valuesIn₄}
+use Rattle.product.specs.Templates.{rangesAt, membersAt, fieldsIn, values₄}
 use Rattle.product.specs.Section4 as four
 use Rattle.product.specs.Views.{rangeOf, membersOf, coordinatesOf, strung}
 use Rattle.product.specs.Accepted.{Follows₄}
 use Rattle.product.specs.declared.Answer.{Answer as Answer₄}
 use Rattle.product.specs.declared.Answer.the-variants.{Read as Read₄}
-use Rattle.product.specs.declared.Product.{Product}
-use Rattle.product.specs.declared.PartKind.{PartKind}
+use Rattle.product.specs.declared.blocks.Product.{Product}
+use Rattle.product.specs.declared.templates.PartKind.{PartKind}
 use Rattle.product.proofs.AcceptedExactlyWhen.{accepted-exactly-when as exactly₄, accepted-follows as follows₄, follows-total}
 use Rattle.product.proofs.FieldsCoverOnce.{covered as covered₄}
 use Rattle.product.proofs.ViewsAreTheLayouts.{views-shown, range-whole, no-range, no-members, refused-nothing}
@@ -130,10 +136,10 @@ field-accepted s1 s3 s4 s5 s7 a e =
 pub section-1-covered : (template : Template₁) (s : List ℕ) → Follows₁ template s → octetsOf (after 0 (one.fields₁ template)) s ≡ s
 section-1-covered template s f = covered₁ template s (f .whole)
 
-pub section-3-covered : (template : Template₃) (s : List ℕ) → Follows₃ template s → octetsOf (after 0 (three.fields₃ template (three.listOctets s))) s ≡ s
-section-3-covered template s f = covered₃ template (three.listWidth s) (three.listCount s) s (all-fits template s (f .list) .whole)
+pub section-3-covered : (template : Template₃) (s : List ℕ) → Follows₃ template s → octetsOf (after 0 (fields₃ template (listOctets s))) s ≡ s
+section-3-covered template s f = covered₃ template (listWidth s) (listCount s) s (all-fits template s (f .list) .whole)
 
-pub section-4-covered : (kind : PartKind) (timed : Bool) (s : List ℕ) → Follows₄ kind timed s → octetsOf (after 0 (four.fieldsIn kind timed s)) s ≡ s
+pub section-4-covered : (kind : PartKind) (timed : Bool) (s : List ℕ) → Follows₄ kind timed s → octetsOf (after 0 (fieldsIn kind timed s)) s ≡ s
 section-4-covered kind timed s f = covered₄ kind timed _ _ _ s (follows-total kind timed s f)
 
 pub section-5-covered : (s : List ℕ) → Follows₅ s → octetsOf (after 0 five.fields₅) s ≡ s
@@ -148,13 +154,13 @@ pub section-1-means : (s : List ℕ) (x : Identification) → one.told (Read₁ 
 unfolding one.told
 section-1-means s x e = follows₁ s (one.valuesIn x) (sym e)
 
-pub section-3-means : (s : List ℕ) (x : Grid) → three.told (Read₃ x) ≡ three.outcome₃ s → (template : Template₃) × Follows₃ template s × (three.valuesIn x ≡ three.values₃ template s)
+pub section-3-means : (s : List ℕ) (x : Grid) → three.told (Read₃ x) ≡ three.outcome₃ s → (template : Template₃) × Follows₃ template s × (valuesIn₃ x ≡ values₃ template s)
 unfolding three.told
-section-3-means s x e = follows₃ s (three.valuesIn x) (sym e)
+section-3-means s x e = follows₃ s (valuesIn₃ x) (sym e)
 
-pub section-4-means : (s : List ℕ) (x : Product) → four.told (Read₄ x) ≡ four.outcome₄ s → (kind : PartKind) × (timed : Bool) × Follows₄ kind timed s × (four.valuesIn x ≡ four.values₄ kind timed s)
+pub section-4-means : (s : List ℕ) (x : Product) → four.told (Read₄ x) ≡ four.outcome₄ s → (kind : PartKind) × (timed : Bool) × Follows₄ kind timed s × (valuesIn₄ x ≡ values₄ kind timed s)
 unfolding four.told
-section-4-means s x e = follows₄ s (four.valuesIn x) (sym e)
+section-4-means s x e = follows₄ s (valuesIn₄ x) (sym e)
 
 pub section-5-means : (s : List ℕ) (x : Packing) → five.told₅ (Read₅ x) ≡ five.outcome₅ s → Follows₅ s × (five.valuesIn₅ x ≡ valuesOf (after 0 five.fields₅) s)
 unfolding five.told₅
@@ -166,7 +172,7 @@ section-7-means n bits s x e = accepted-follows₇ n bits s (seven.valuesIn₇ x
 
 -- a field that is read is its sections, each read as it is alone, and section 7 by section 5's N and bits
 pub field-means : (s1 s3 s4 s5 s7 : List ℕ) (x : WholeField) → toldField (ReadField x) ≡ fieldOutcome s1 s3 s4 s5 s7
-    → (one.outcome₁ s1 ≡ read (one.valuesIn (x .identification))) × (three.outcome₃ s3 ≡ read (three.valuesIn (x .grid))) × (four.outcome₄ s4 ≡ read (four.valuesIn (x .product)))
+    → (one.outcome₁ s1 ≡ read (one.valuesIn (x .identification))) × (three.outcome₃ s3 ≡ read (valuesIn₃ (x .grid))) × (four.outcome₄ s4 ≡ read (valuesIn₄ (x .product)))
     × (five.outcome₅ s5 ≡ read (five.valuesIn₅ (x .packing))) × ((vs : List Value) × (seven.outcome₇ (five.valuesAt s5) (five.bitsAt s5) s7 ≡ read vs))
 unfolding toldField fieldOutcome packedOutcome NoneHold
 field-means s1 s3 s4 s5 s7 x e =
@@ -181,31 +187,31 @@ field-means s1 s3 s4 s5 s7 x e =
 
 -- ---- a caller is shown those very octets of the section, and nothing of a refused one
 
-pub list-of-section-3 : (template : Template₃) (s : List ℕ) → Follows₃ template s → three.list₃ s ≡ part s (1 + three.baseEnd template) (three.listOctets s)
+pub list-of-section-3 : (template : Template₃) (s : List ℕ) → Follows₃ template s → list₃ s ≡ part s (1 + baseEnd template) (listOctets s)
 list-of-section-3 = those-very-octets
 
-pub list-without-width : (template : Template₃) (s : List ℕ) → Follows₃ template s → NoList template s → three.list₃ s ≡ []
+pub list-without-width : (template : Template₃) (s : List ℕ) → Follows₃ template s → NoList template s → list₃ s ≡ []
 list-without-width = without-a-list
 
 -- its numbers sum to the points
-pub list-sum : (template : Template₃) (s : List ℕ) → Follows₃ template s → three.hasList (three.listWidth s) ≡ true → beAt s 7 4 ≡ three.sumOf 0 (three.listWidth s) (three.list₃ s) (three.listCount s)
+pub list-sum : (template : Template₃) (s : List ℕ) → Follows₃ template s → hasList (listWidth s) ≡ true → beAt s 7 4 ≡ sumOf 0 (listWidth s) (list₃ s) (listCount s)
 list-sum = points-are-its-sum
 
-pub no-list-of-section-3 : (s : List ℕ) (number section place : ℕ) → three.outcome₃ s ≡ refused number section place → three.list₃ s ≡ []
+pub no-list-of-section-3 : (s : List ℕ) (number section place : ℕ) → three.outcome₃ s ≡ refused number section place → list₃ s ≡ []
 no-list-of-section-3 = refused-shows-none
 
 -- the time ranges, strung together, the members and the coordinates are the octets that the layout shows, in their order
-pub views-of-section-4 : (kind : PartKind) (timed : Bool) (s : List ℕ) → Follows₄ kind timed s → shownOf (after 0 (four.fieldsIn kind timed s)) s ≡ strung (rangeOf s) (four.rangesAt kind timed s) ∷ membersOf s ∷ coordinatesOf s ∷ []
+pub views-of-section-4 : (kind : PartKind) (timed : Bool) (s : List ℕ) → Follows₄ kind timed s → shownOf (after 0 (fieldsIn kind timed s)) s ≡ strung (rangeOf s) (rangesAt kind timed s) ∷ membersOf s ∷ coordinatesOf s ∷ []
 views-of-section-4 = views-shown
 
-pub range-has-12 : (kind : PartKind) (timed : Bool) (s : List ℕ) → Follows₄ kind timed s → (k : ℕ) → k < four.rangesAt kind timed s → length (rangeOf s k) ≡ 12
+pub range-has-12 : (kind : PartKind) (timed : Bool) (s : List ℕ) → Follows₄ kind timed s → (k : ℕ) → k < rangesAt kind timed s → length (rangeOf s k) ≡ 12
 range-has-12 = range-whole
 
-pub no-range-from-n-up : (kind : PartKind) (timed : Bool) (s : List ℕ) → Follows₄ kind timed s → (k : ℕ) → four.rangesAt kind timed s ≤ k → rangeOf s k ≡ []
+pub no-range-from-n-up : (kind : PartKind) (timed : Bool) (s : List ℕ) → Follows₄ kind timed s → (k : ℕ) → rangesAt kind timed s ≤ k → rangeOf s k ≡ []
 no-range-from-n-up = no-range
 
 -- a template without members, and one that counts none
-pub no-members-of-section-4 : (kind : PartKind) (timed : Bool) (s : List ℕ) → Follows₄ kind timed s → four.membersAt kind s ≡ 0 → membersOf s ≡ []
+pub no-members-of-section-4 : (kind : PartKind) (timed : Bool) (s : List ℕ) → Follows₄ kind timed s → membersAt kind s ≡ 0 → membersOf s ≡ []
 no-members-of-section-4 = no-members
 
 pub no-views-of-section-4 : (s : List ℕ) (number section place : ℕ) → four.outcome₄ s ≡ refused number section place → ((k : ℕ) → rangeOf s k ≡ []) × (membersOf s ≡ []) × (coordinatesOf s ≡ [])

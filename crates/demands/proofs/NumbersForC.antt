@@ -11,21 +11,27 @@ use lib.IntN.{ℤ}
 use lib.ListN.{length}
 use borrow.Author.Tests.{leb-true, eqb-true}
 use Rattle.layout.specs.Outcomes.{Outcome, refused, read, noRefusal, refusal}
+use Rattle.layout.specs.Refusals.{Row, oneOf, numbersOf, hasPlace, Listed}
 use Rattle.layout.proofs.Outcomes.{either}
+use Rattle.layout.proofs.Refusals.{wider, Refuses, placeless}
 use Rattle.layout.specs.declared.Refusal.{Refusal}
 use Rattle.layout.proofs.Ranges.{both-hold}
 use Rattle.packing.specs.Unpacking.{unpackOutcome}
+use Rattle.packing.specs.Refused.{unpackTable}
+use Rattle.packing.proofs.RefusalNumbers.{unpack-refuses}
 use Rattle.shelf.specs.declared.Shelf.{Shelf}
 use Rattle.shelf_octets.specs.ShelfOctets.{shelfIn}
 use Rattle.filing.specs.declared.Answer.{Answer}
 use Rattle.filing.specs.declared.Answer.the-variants.{Kept, Passed, Refused as refusedField}
 use Rattle.filing.specs.Filing.{filedOf}
+use Rattle.filing.specs.Refused.{filingTable}
+use Rattle.filing.proofs.RefusalNumbers.{filing-refuses}
 use Rattle.queue.specs.Records.{issueFrom}
 use Rattle.queue.specs.declared.QueueAnswer.{QueueAnswer}
 use Rattle.queue.specs.declared.QueueAnswer.the-variants.{Filed as filedAll, Refused as refusedAll}
 use Rattle.queue.specs.Queues.{queueFiled}
-use Rattle.refusals.specs.Refusals.{Row, oneOf, numbersOf, Listed, unpackTable, filingTable, queueTable}
-use Rattle.refusals.proofs.RefusalNumbers.{Refuses, wider, unpack-refuses, filing-refuses, queue-refuses}
+use Rattle.queue.specs.Refused.{queueTable}
+use Rattle.queue.proofs.RefusalNumbers.{queue-refuses}
 use Rattle.values.specs.Lent.{Done}
 use Rattle.values.specs.Refused.{readTable}
 use Rattle.values.proofs.RecordRead.{read-into-refuses}
@@ -49,7 +55,7 @@ small-section (r ∷ rs) section number o e =
 
 pub one-refusal : (table : List Row) (x y : Refusal) → octetSections table ≡ true → Listed table x → Listed table y → codeOf x ≡ codeOf y → x ≡ y
 one-refusal table x y o p q e =
-    let same = taken-apart _ _ _ _ _ _ (small-section table _ _ o (p .listed)) (small-section table _ _ o (q .listed)) (omega (arith, p .within)) (omega (arith, q .within)) e in
+    let same = taken-apart _ _ _ _ _ _ (small-section table _ _ o (p .listed)) (small-section table _ _ o (q .listed)) (omega (arith, p .placed .within)) (omega (arith, q .placed .within)) e in
     λ i. record { number = same .0 i; section = same .1 i; place = same .2 i }
 
 -- ---- sections
@@ -73,8 +79,8 @@ read-answers section s row = by (read-into-refuses section s row)
 -- ---- refusals of what is lent
 
 -- a number of no section and no place that the table lists
-plainly : (table : List Row) (number : ℕ) → oneOf (numbersOf table 0) number ≡ true → eqb number 8 ≡ false → Answers table (code number 0 0)
-plainly table number e f = inr (refusal number 0 0, refl, record { listed = e; placed = sym f; within = omega arith })
+plainly : (table : List Row) (number : ℕ) → oneOf (numbersOf table 0) number ≡ true → hasPlace number ≡ false → Answers table (code number 0 0)
+plainly table number e f = inr (refusal number 0 0, refl, placeless table number 0 e f)
 
 abbrev AnswersBy : {B : Type 0} → List Row → Done ℕ B → Type 0
 AnswersBy table x = Answers table (x .answer)

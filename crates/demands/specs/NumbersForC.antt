@@ -8,7 +8,9 @@ use mathlib.Core.Bool.{Bool, true, _&&_}
 use mathlib.Core.List.{List, [], _∷_}
 use lib.Dec.{leb}
 use Rattle.layout.specs.declared.Refusal.{Refusal}
-use Rattle.refusals.specs.Refusals.{Row, row, Listed, numbers₁, laterRows}
+use Rattle.layout.specs.Refusals.{Row, row, Listed}
+use Rattle.identification.specs.Refused.{numbers₁}
+use Rattle.field.specs.Refused.{laterRows}
 use Rattle.skogmund.specs.Entries.{codeOf}
 
 -- none, or a refusal that the table lists

@@ -2,3 +2,4 @@ pub mod AnswersDetermined
 pub mod AcceptedExactlyWhen
 pub mod Points
 pub mod Entries
+pub mod RefusalNumbers

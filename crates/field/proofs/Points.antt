@@ -7,8 +7,10 @@ use lib.ListN.{getD}
 use Rattle.octets.specs.Octets.{beAt}
 use Rattle.layout.specs.Fields.{Value, none, placed, valuesOf, naturalIn}
 use Rattle.layout.specs.Outcomes.{read}
-use Rattle.grid.specs.Section3.{fields₃, gridHead, values₃, outcome₃, valuesIn}
-use Rattle.grid.specs.declared.Grid.{Grid}
+use Rattle.grid.specs.Blocks.{gridHead, valuesIn}
+use Rattle.grid.specs.Templates.{fields₃, values₃}
+use Rattle.grid.specs.Section3.{outcome₃}
+use Rattle.grid.specs.declared.blocks.Grid.{Grid}
 use Rattle.grid.proofs.AcceptedExactlyWhen.{accepted-follows}
 
 pub points-are : (s : List ℕ) (x : Grid) → outcome₃ s ≡ read (valuesIn x) → x .points ≡ beAt s 7 4

@@ -8,9 +8,9 @@ use mathlib.Core.List.{List}
 use Rattle.identification.specs.Accepted.{Follows₁}
 use Rattle.identification.specs.declared.Template.{Template as Template₁}
 use Rattle.grid.specs.Accepted.{Follows₃}
-use Rattle.grid.specs.declared.Template.{Template as Template₃}
+use Rattle.grid.specs.declared.templates.Template.{Template as Template₃}
 use Rattle.product.specs.Accepted.{Follows₄}
-use Rattle.product.specs.declared.PartKind.{PartKind}
+use Rattle.product.specs.declared.templates.PartKind.{PartKind}
 use Rattle.packing.specs.Accepted.{Follows₅, Follows₇}
 use Rattle.packing.specs.Section5.{valuesAt, bitsAt}
 use Rattle.field.specs.Field.{FieldOutcome, refusedField, readField, pointsAt}

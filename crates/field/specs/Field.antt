@@ -8,8 +8,10 @@ use Rattle.octets.specs.Octets.{beAt}
 use Rattle.layout.specs.Fields.{Value}
 use Rattle.layout.specs.Outcomes.{Outcome, refused, read, reason, firstOf, noRefusal}
 use Rattle.identification.specs.Section1.{outcome₁, valuesIn as valuesIn₁}
-use Rattle.grid.specs.Section3.{outcome₃, valuesIn as valuesIn₃}
-use Rattle.product.specs.Section4.{outcome₄, valuesIn as valuesIn₄}
+use Rattle.grid.specs.Blocks.{valuesIn as valuesIn₃}
+use Rattle.grid.specs.Section3.{outcome₃}
+use Rattle.product.specs.Blocks.{valuesIn as valuesIn₄}
+use Rattle.product.specs.Section4.{outcome₄}
 use Rattle.packing.specs.Section5.{outcome₅, valuesAt, bitsAt, valuesIn₅}
 use Rattle.packing.specs.Section7.{outcome₇}
 use Rattle.layout.specs.declared.Refusal.{Refusal}

@@ -1,8 +1,8 @@
 // A whole field: five lent sections in the order 1, 3, 4, 5, 7.
 ghost use mathlib.Core.Path.{_≡_};
 ghost use Rattle.identification.specs.Section1.{valuesIn as valuesIn₁};
-ghost use Rattle.grid.specs.Section3.{valuesIn as valuesIn₃};
-ghost use Rattle.product.specs.Section4.{valuesIn as valuesIn₄};
+ghost use Rattle.grid.specs.Blocks.{valuesIn as valuesIn₃};
+ghost use Rattle.product.specs.Blocks.{valuesIn as valuesIn₄};
 ghost use Rattle.field.specs.Field.{fieldOutcome, packedOutcome, told, refusalIn};
 use grid::Grid;
 use identification::Identification;
@@ -63,11 +63,7 @@ fn read_packed(
         return Answer::Refused(packing::refusal_of(five));
     };
     if packing.values != grid.points {
-        return Answer::Refused(Refusal {
-            number: 14,
-            section: 5,
-            place: 0,
-        });
+        return Answer::Refused(Refusal::of(14, 5));
     }
     let seven = packing::read_data(section7, packing.values, packing.bits);
     let packing::DataAnswer::Read(_) = seven else {
@@ -87,10 +83,6 @@ pub fn refusal_of(answer: Answer) -> Refusal
 {
     match answer {
         Answer::Refused(x) => x,
-        Answer::Read(_) => Refusal {
-            number: 0,
-            section: 0,
-            place: 0,
-        },
+        Answer::Read(_) => Refusal::none(),
     }
 }

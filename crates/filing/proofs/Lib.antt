@@ -1,3 +1,4 @@
 pub mod SaidOfTheSlots
 pub mod CardOctets
 pub mod Entries
+pub mod RefusalNumbers

@@ -6,21 +6,25 @@ use native.Mathlib.Nat.{zero-mul}
 use native.Mathlib.Omega.{arith}
 use mathlib.Core.Path.{_≡_, refl, ap, sym, _∙_}
 use mathlib.Core.Logic.{_↔_, _⊎_, inl, inr}
-use mathlib.Core.List.{List}
+use mathlib.Core.List.{List, [], _∷_}
 use mathlib.Core.Bool.{Bool, true, false, cond, _&&_, _||_, or-true}
 use lib.ListN.{length}
-use lib.Dec.{leb, eqb}
+use lib.Dec.{ltb, leb, eqb}
 use borrow.Author.Tests.{le-ltb, ltb-false, eq-eqb, ne-eqb, eqb-true, lt-leb, leb-false, not-false}
 use Rattle.octets.specs.Octets.{beAt}
-use Rattle.layout.specs.Fields.{Value, between, after, placed, AllAllowed}
-use Rattle.layout.specs.Outcomes.{read, firstOf, headReasons}
+use Rattle.layout.specs.Fields.{Value, between, after, placed, badPlace, AllAllowed}
+use Rattle.layout.specs.Outcomes.{read, reason}
 use Rattle.layout.proofs.Blocks.{bad-none, none-bad}
-use Rattle.layout.proofs.Outcomes.{NoneHold, read-none, none-last}
-use Rattle.layout.proofs.Ranges.{both-hold, either-holds, between-in, in-between, test-differs, differs-test, test-same, same-test}
-use Rattle.grid.specs.Section3.{hasList, gridHead, counts, corners, pole, poles, fields₃, baseEnd, listWidth, interpretation, ni, nj, missingWith, agreedWithoutList, agreedWithList, agreed, listCount, listOctets, total, sumOf, pointsOf, productAbove, values₃, fittingReasons, fitting, templateReasons, asTemplate, numberReasons, templateNumbered, templateOf, outcome₃}
+use Rattle.layout.proofs.Outcomes.{Headed, Fits, NoneHold, read-none, none-last, opening-read, opening-last, template-read, template-last}
+use Rattle.layout.proofs.Ranges.{both-hold, either-holds, between-in, in-between, test-differs, differs-test, test-same, same-test, test-unmet}
+use Rattle.grid.specs.Blocks.{hasList, gridHead, counts, corners, pole, poles}
+use Rattle.grid.specs.Templates.{fields₃, baseEnd, listWidth, interpretation, ni, nj, listCount, listOctets, total, values₃, templateNumbered, templateNamed}
+use Rattle.grid.specs.Agreement.{missingWith, agreedWithoutList, agreedWithList, agreed, disagreement}
+use Rattle.grid.specs.Points.{sumOf, pointsOf, productAbove, pointsReasons}
+use Rattle.grid.specs.Section3.{asTemplate, outcome₃}
 use Rattle.grid.specs.Accepted.{numberOf, Missing, Present, PolesPresent, NoList, AList, Follows₃}
-use Rattle.grid.specs.declared.Template.{Template}
-use Rattle.grid.specs.declared.Template.the-variants.{LatLon, Rotated, Stretched, StretchedAndRotated}
+use Rattle.grid.specs.declared.templates.Template.{Template}
+use Rattle.grid.specs.declared.templates.Template.the-variants.{LatLon, Rotated, Stretched, StretchedAndRotated}
 use Rattle.grid.proofs.Widths.{which-width, width-listed, listed-not-0}
 use Rattle.grid.proofs.FieldsByBlock.{allowed-by-block, block-by-block-allowed}
 
@@ -177,24 +181,22 @@ module _ (template : Template) (s : List ℕ) (whole : length s ≡ total templa
           inr (with-list (agree .0) (rest .0) (either-holds _ _ (rest .1)))
 
 pub accepted-follows : (s : List ℕ) (vs : List Value) → outcome₃ s ≡ read vs → (template : Template) × Follows₃ template s × (vs ≡ values₃ template s)
-unfolding outcome₃ asTemplate fitting NoneHold AllAllowed placed gridHead counts corners
+unfolding outcome₃ asTemplate NoneHold AllAllowed placed gridHead counts corners
 accepted-follows s vs e =
-    let template = templateOf s in
-    let head = read-none 3 (headReasons 3 s) _ vs e in
-    let number = read-none 3 (numberReasons s) _ vs (head .1) in
-    let range = read-none 3 (templateReasons template s) _ vs (number .1) in
-    let fits = read-none 3 (fittingReasons template s) (read (values₃ template s)) vs (range .1) in
-    let fine = bad-none 0 1 (fields₃ template (listOctets s)) s (omega arith) (test-same _ _ (range .0 .1 .0)) in
-    let block = allowed-by-block template (listOctets s) s fine in
-    let whole : length s ≡ total template s = test-same _ _ (fits .0 .1 .0) in
-    let points : beAt s 7 4 ≡ pointsOf template s = test-same _ _ (fits .0 .1 .1 .1 .0) in (
+    let template = templateNamed s in
+    let head = opening-read 3 s _ 14 vs e in
+    let number = read-none 3 (reason 6 (ltb 3 (beAt s 13 2)) ∷ []) _ vs (head .2) in
+    let fits = template-read 3 s _ _ _ _ _ vs (number .1) in
+    let points = read-none 3 (pointsReasons template s) (read (values₃ template s)) vs (fits .1) in
+    let fine = bad-none 0 1 (fields₃ template (listOctets s)) s (omega arith) (fits .0 .in-range) in
+    let block = allowed-by-block template (listOctets s) s fine in (
       template,
       record {
-        small = ltb-false _ _ (head .0 .1 .0);
-        says-length = test-same _ _ (head .0 .1 .1 .0);
-        says-number = test-same _ _ (head .0 .1 .1 .1 .0);
+        small = head .0 .small;
+        says-length = head .0 .says-length;
+        says-number = head .0 .says-number;
         source = omega (arith, between-in _ _ _ (block .0 .1 .1 .0) .1);
-        names = numbered _ (ltb-false _ _ (number .0 .1 .0));
+        names = numbered _ (ltb-false _ _ (number .0 .0));
         ni = test-differs _ _ (block .1 .0);
         nj = test-differs _ _ (block .1 .1 .0);
         subdivisions = test-differs _ _ (block .1 .1 .1 .1 .0);
@@ -203,7 +205,7 @@ accepted-follows s vs e =
         la2 = test-differs _ _ (block .2 .1 .1 .1 .0);
         lo2 = test-differs _ _ (block .2 .1 .1 .1 .1 .0);
         poles = poles-in template s (block .3);
-        list = fitting-follows template s whole points (not-false _ (fits .0 .0)) (fits .0 .1 .1 .0);
+        list = fitting-follows template s (fits .0 .whole) (test-same _ _ (points .0 .1 .0)) (not-false _ (test-unmet 9 _ (fits .0 .own-kept))) (points .0 .0);
       },
       cc,
     )
@@ -254,10 +256,9 @@ all-fits template s (inr (inr f)) =
     list-fits 35 68 31 template s (rw m (or-true (missingWith 31 64 35 s))) (count-j template s (width-listed _ (f .width)) (f .count)) f
 
 pub follows-accepted : (template : Template) (s : List ℕ) → Follows₃ template s → outcome₃ s ≡ read (values₃ template s)
-unfolding outcome₃ asTemplate fitting NoneHold AllAllowed placed gridHead counts corners
+unfolding outcome₃ asTemplate NoneHold AllAllowed placed gridHead counts corners
 follows-accepted template s f =
     let fit = all-fits template s (f .list) in
-    let long : baseEnd template ≤ length s = omega (arith, fit .whole) in
     let source : beAt s 6 1 ≤ 0 = omega (arith, f .source) in
     let number : beAt s 13 2 ≤ 3 = rw (f .names) (number-up-to-3 template) in
     let in-head : AllAllowed (after 0 gridHead) s = (
@@ -284,24 +285,15 @@ follows-accepted template s f =
     let fine =
     block-by-block-allowed template (listOctets s) s in-head in-counts in-corners (in-poles template s (f .poles))
     in
-    let head = none-last 3 (headReasons 3 s) (firstOf 3 (numberReasons s) (asTemplate (templateOf s) s)) (
-      le-ltb (length s) 5 (omega (arith, base-long template)),
-      (le-ltb _ _ (f .small), (same-test _ _ (f .says-length), (same-test _ _ (f .says-number), tt))),
-    ) in
-    let by-number = none-last 3 (numberReasons s) (asTemplate (templateOf s) s) (
-      le-ltb (length s) 14 (omega (arith, base-long template)),
-      (le-ltb _ _ number, tt),
-    ) in
-    let template-is : templateOf s ≡ template = ap templateNumbered (f .names) ∙ named template in
-    let range = none-last 3 (templateReasons template s) (fitting template s) (
-      le-ltb _ _ long,
-      (same-test _ _ (none-bad _ s fine), tt),
-    ) in
-    let last = none-last 3 (fittingReasons template s) (read (values₃ template s)) (
-      rw (fit .agree),
-      (same-test _ _ (fit .whole), (fit .product, (same-test _ _ (fit .points), tt))),
-    ) in
-    head ∙ by-number ∙ ap (λ (t : Template). asTemplate t s) template-is ∙ range ∙ last
+    let headed : Headed 3 s = record { long = omega (arith, base-long template); small = f .small; says-length = f .says-length; says-number = f .says-number } in
+    let listed = none-last 3 (reason 6 (ltb 3 (beAt s 13 2)) ∷ []) (asTemplate (templateNamed s) s) (le-ltb _ _ number, tt) in
+    let template-is : templateNamed s ≡ template = ap templateNumbered (f .names) ∙ named template in
+    let fits : Fits (baseEnd template) (badPlace (after 0 (fields₃ template (listOctets s))) s) (disagreement s) (total template s) s = record { enough = omega (arith, fit .whole); in-range = none-bad _ s fine; own-kept = rw (fit .agree); whole = fit .whole } in
+    opening-last 3 s _ 14 headed (omega (arith, base-long template))
+    ∙ listed
+    ∙ ap (λ (t : Template). asTemplate t s) template-is
+    ∙ template-last 3 s _ _ _ _ _ fits
+    ∙ none-last 3 (pointsReasons template s) (read (values₃ template s)) (fit .product, (same-test _ _ (fit .points), tt))
 
 pub accepted-exactly-when : (s : List ℕ) → ((vs : List Value) × (outcome₃ s ≡ read vs)) ↔ ((template : Template) × Follows₃ template s)
 accepted-exactly-when s = (

@@ -7,24 +7,25 @@ use lib.ListN.{getD, drop}
 use Rattle.layout.specs.Fields.{Value, none, wholeIn, naturalIn}
 use Rattle.layout.specs.Outcomes.{Outcome, refused, read, refusal}
 use Rattle.layout.proofs.Untold.{to32, back32, told-back}
-use Rattle.grid.specs.Section3.{told, valuesIn, scaledIn, earthIn, commonIn, poleIn, polesIn, outcome₃}
-use Rattle.grid.specs.declared.Scaled.{Scaled}
-use Rattle.grid.specs.declared.Common.{Common}
-use Rattle.grid.specs.declared.Pole.{Pole}
-use Rattle.grid.specs.declared.Poles.{Poles}
-use Rattle.grid.specs.declared.Poles.the-variants.{None as noPoles, Rotated as isRotated, Stretched as isStretched, StretchedAndRotated as isBoth}
-use Rattle.grid.specs.declared.Grid.{Grid}
+use Rattle.grid.specs.Blocks.{valuesIn, earthSizeIn, earthIn, commonIn, poleIn, polesIn}
+use Rattle.grid.specs.Section3.{told, outcome₃}
+use Rattle.grid.specs.declared.blocks.EarthSize.{EarthSize}
+use Rattle.grid.specs.declared.blocks.Common.{Common}
+use Rattle.grid.specs.declared.blocks.Pole.{Pole}
+use Rattle.grid.specs.declared.blocks.Poles.{Poles}
+use Rattle.grid.specs.declared.blocks.Poles.the-variants.{None as noPoles, Rotated as isRotated, Stretched as isStretched, StretchedAndRotated as isBoth}
+use Rattle.grid.specs.declared.blocks.Grid.{Grid}
 use Rattle.grid.specs.declared.Answer.{Answer}
 use Rattle.grid.specs.declared.Answer.the-variants.{Read, Refused}
 
 -- ---- blocks of values
 
-toScaled : List Value → Scaled
-toScaled vs = record { factor = to32 (getD vs 0 none); value = to32 (getD vs 1 none) }
+toEarthSize : List Value → EarthSize
+toEarthSize vs = record { factor = to32 (getD vs 0 none); value = to32 (getD vs 1 none) }
 
-scaled-back : (x : Scaled) → toScaled (scaledIn x) ≡ x
-unfolding toScaled scaledIn
-scaled-back x = λ i. record { factor = back32 (x .factor) i; value = back32 (x .value) i }
+earth-size-back : (x : EarthSize) → toEarthSize (earthSizeIn x) ≡ x
+unfolding toEarthSize earthSizeIn
+earth-size-back x = λ i. record { factor = back32 (x .factor) i; value = back32 (x .value) i }
 
 toPole : List Value → Pole
 toPole vs = record { latitude = wholeIn (getD vs 0 none); longitude = wholeIn (getD vs 1 none); «angle_or_factor» = naturalIn (getD vs 2 none) }
@@ -53,9 +54,9 @@ toCommon vs = record {
   earth =
       record {
         shape = naturalIn (getD vs 0 none);
-        radius = toScaled (drop 1 vs);
-        «major_axis» = toScaled (drop 3 vs);
-        «minor_axis» = toScaled (drop 5 vs);
+        radius = toEarthSize (drop 1 vs);
+        «major_axis» = toEarthSize (drop 3 vs);
+        «minor_axis» = toEarthSize (drop 5 vs);
       };
   ni = to32 (getD vs 7 none);
   nj = to32 (getD vs 8 none);
@@ -88,7 +89,7 @@ untold (read vs) =
     })
 
 back : (a : Answer) → untold (told a) ≡ a
-unfolding untold told valuesIn commonIn earthIn scaledIn toScaled toCommon
+unfolding untold told valuesIn commonIn earthIn earthSizeIn toEarthSize toCommon
 back (Refused x) = refl
 back (Read x) =
     let earth = x .common .earth in
@@ -106,9 +107,9 @@ back (Read x) =
             earth =
                 record {
                   shape = earth .shape;
-                  radius = scaled-back (earth .radius) i;
-                  «major_axis» = scaled-back (earth .«major_axis») i;
-                  «minor_axis» = scaled-back (earth .«minor_axis») i;
+                  radius = earth-size-back (earth .radius) i;
+                  «major_axis» = earth-size-back (earth .«major_axis») i;
+                  «minor_axis» = earth-size-back (earth .«minor_axis») i;
                 };
             ni = back32 (x .common .ni) i;
             nj = back32 (x .common .nj) i;

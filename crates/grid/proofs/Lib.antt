@@ -6,3 +6,4 @@ pub mod StarredGrids
 pub mod FieldsByBlock
 pub mod Widths
 pub mod Entries
+pub mod RefusalNumbers

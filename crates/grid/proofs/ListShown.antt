@@ -15,9 +15,13 @@ use Rattle.layout.specs.Spans.{nowhere, spanAfter, Within}
 use Rattle.layout.specs.declared.Span.{Span}
 use Rattle.layout.proofs.Outcomes.{of-both}
 use Rattle.layout.proofs.Spans.{octets-after, after-within}
-use Rattle.grid.specs.Section3.{hasList, baseEnd, listWidth, listCount, listOctets, sumOf, templateNumbered, templateOf, outcome₃, listSpan, list₃}
+use Rattle.grid.specs.Blocks.{hasList}
+use Rattle.grid.specs.Templates.{baseEnd, listWidth, listCount, listOctets, templateNumbered, templateNamed}
+use Rattle.grid.specs.Points.{sumOf}
+use Rattle.grid.specs.Section3.{outcome₃}
+use Rattle.grid.specs.Views.{listSpan, list₃}
 use Rattle.grid.specs.Accepted.{Follows₃, NoList}
-use Rattle.grid.specs.declared.Template.{Template}
+use Rattle.grid.specs.declared.templates.Template.{Template}
 use Rattle.grid.proofs.AcceptedExactlyWhen.{all-fits, named, points-listed, accepted-follows, follows-accepted}
 
 pub refused-shows-none : (s : List ℕ) (number section place : ℕ) → outcome₃ s ≡ refused number section place → list₃ s ≡ []
@@ -37,7 +41,7 @@ module _ (template : Template) (s : List ℕ) (f : Follows₃ template s) where
   whole : length s ≡ baseEnd template + listOctets s
   whole = all-fits template s (f .list) .whole
 
-  names-it : templateOf s ≡ template
+  names-it : templateNamed s ≡ template
   names-it = ap templateNumbered (f .names) ∙ named template
 
   stretch : list₃ s ≡ take (listOctets s) (drop (baseEnd template) s)
@@ -66,7 +70,7 @@ module _ (template : Template) (s : List ℕ) (f : Follows₃ template s) where
 pub list-within : (s : List ℕ) → Within (listSpan s) s
 unfolding listSpan
 list-within s =
-    of-both (λ (x : Span). Within x s) (outcome₃ s) (spanAfter (baseEnd (templateOf s)) (listOctets s)) nowhere (omega arith)
+    of-both (λ (x : Span). Within x s) (outcome₃ s) (spanAfter (baseEnd (templateNamed s)) (listOctets s)) nowhere (omega arith)
     (λ vs e.
     let f = accepted-follows s vs e in
-    after-within (baseEnd (templateOf s)) (listOctets s) s (rw (names-it (f .0) s (f .1)) (omega (arith, whole (f .0) s (f .1)))))
+    after-within (baseEnd (templateNamed s)) (listOctets s) s (rw (names-it (f .0) s (f .1)) (omega (arith, whole (f .0) s (f .1)))))

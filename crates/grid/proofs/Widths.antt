@@ -9,9 +9,11 @@ use native.Mathlib.Omega.{arith}
 use lib.Dec.{eqb}
 use borrow.Author.Tests.{ne-eqb, eqb-true}
 use Rattle.layout.proofs.Ranges.{both-hold}
-use Rattle.grid.specs.Section3.{hasList, baseEnd, listWidth, agreed}
-use Rattle.grid.specs.declared.Template.{Template}
-use Rattle.grid.specs.declared.Template.the-variants.{LatLon, Rotated, Stretched, StretchedAndRotated}
+use Rattle.grid.specs.Blocks.{hasList}
+use Rattle.grid.specs.Templates.{baseEnd, listWidth}
+use Rattle.grid.specs.Agreement.{agreed}
+use Rattle.grid.specs.declared.templates.Template.{Template}
+use Rattle.grid.specs.declared.templates.Template.the-variants.{LatLon, Rotated, Stretched, StretchedAndRotated}
 
 -- 1, 2 and 4, and no other
 pub no-list : (width : ℕ) → (width ≡ 1 → ⊥) → (width ≡ 2 → ⊥) → (width ≡ 4 → ⊥) → hasList width ≡ false

@@ -6,9 +6,10 @@ use mathlib.Core.List.{List}
 use mathlib.Core.Logic.{_⊎_}
 use lib.ListN.{length}
 use Rattle.octets.specs.Octets.{beAt}
-use Rattle.grid.specs.Section3.{baseEnd, sumOf}
-use Rattle.grid.specs.declared.Template.{Template}
-use Rattle.grid.specs.declared.Template.the-variants.{LatLon, Rotated, Stretched, StretchedAndRotated}
+use Rattle.grid.specs.Templates.{baseEnd}
+use Rattle.grid.specs.Points.{sumOf}
+use Rattle.grid.specs.declared.templates.Template.{Template}
+use Rattle.grid.specs.declared.templates.Template.the-variants.{LatLon, Rotated, Stretched, StretchedAndRotated}
 
 -- the number of a template, in octets 13-14
 abbrev pub numberOf : Template → ℕ

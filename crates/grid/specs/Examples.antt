@@ -7,7 +7,8 @@ use lib.IntN.{ℤ, pos}
 use Rattle.octets.specs.Octets.{digits, allOnes}
 use Rattle.layout.specs.Fields.{Value, none, wholeIn}
 use Rattle.layout.specs.Examples.{Example, answered}
-use Rattle.grid.specs.Section3.{outcome₃, list₃}
+use Rattle.grid.specs.Section3.{outcome₃}
+use Rattle.grid.specs.Views.{list₃}
 
 -- octets 1 to 14: length, number, source, points, list width, list interpretation, template number
 abbrev pub exampleHead : List ℕ

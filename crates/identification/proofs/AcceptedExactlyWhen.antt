@@ -5,19 +5,19 @@ use Prim.Native.Nat.{ℕ, zero, suc, _≤_}
 use native.Mathlib.Omega.{arith}
 use mathlib.Core.Path.{_≡_, refl, sym, _∙_}
 use mathlib.Core.Logic.{_↔_}
-use mathlib.Core.List.{List}
+use mathlib.Core.List.{List, [], _∷_}
 use mathlib.Core.Bool.{Bool, true, false, cond}
 use lib.ListN.{length}
 use lib.Dec.{eqb}
-use borrow.Author.Tests.{le-ltb, ne-eqb, eqb-false}
+use borrow.Author.Tests.{ne-eqb, eqb-false}
 use Rattle.octets.specs.Octets.{beAt}
-use Rattle.layout.specs.Fields.{Value, after, placed, AllAllowed}
-use Rattle.layout.specs.Outcomes.{read, firstOf, headReasons}
+use Rattle.layout.specs.Fields.{Value, after, placed, badPlace, AllAllowed}
+use Rattle.layout.specs.Outcomes.{read, reason}
 use Rattle.layout.specs.Time.{time}
 use Rattle.layout.proofs.Blocks.{bad-none, none-bad}
-use Rattle.layout.proofs.Outcomes.{NoneHold, read-none, none-last}
-use Rattle.layout.proofs.Ranges.{between-in, in-between, test-differs, differs-test, test-same, same-test}
-use Rattle.identification.specs.Section1.{fields₁, origin, statusAndType, templateFields, total, values₁, templateReasons, asTemplate, byNumber, byTemplate, lengthReasons, outcome₁}
+use Rattle.layout.proofs.Outcomes.{Headed, Fits, NoneHold, read-none, none-last, opening-read, opening-last, template-read, template-last}
+use Rattle.layout.proofs.Ranges.{between-in, in-between, test-differs, differs-test}
+use Rattle.identification.specs.Section1.{fields₁, origin, statusAndType, templateFields, total, values₁, asTemplate, byNumber, byTemplate, outcome₁}
 use Rattle.identification.specs.Accepted.{Names, OffsetPresent, Follows₁}
 use Rattle.identification.specs.declared.Template.{Template}
 use Rattle.identification.specs.declared.Template.the-variants.{None as noTemplate, Calendar, Offset, CalendarAndOffset}
@@ -57,17 +57,17 @@ template-of s vs e = by-length (eqb (length s) 21) e
 pub accepted-follows : (s : List ℕ) (vs : List Value) → outcome₁ s ≡ read vs → (template : Template) × Follows₁ template s × (vs ≡ values₁ template s)
 unfolding outcome₁ asTemplate NoneHold AllAllowed placed fields₁ origin time statusAndType
 accepted-follows s vs e =
-    let head = read-none 1 (headReasons 1 s) _ vs e in
-    let by = template-of s vs (read-none 1 (lengthReasons s) _ vs (head .1) .1) in
+    let head = opening-read 1 s _ 21 vs e in
+    let by = template-of s vs (read-none 1 (reason 5 (eqb (length s) 22) ∷ []) _ vs (head .2) .1) in
     let template = by .0 in
-    let rest = read-none 1 (templateReasons template s) (read (values₁ template s)) vs (by .2) in
-    let fine = bad-none 0 1 (fields₁ template) s (omega arith) (test-same _ _ (rest .0 .1 .0)) in
+    let rest = template-read 1 s (read (values₁ template s)) _ _ _ _ vs (by .2) in
+    let fine = bad-none 0 1 (fields₁ template) s (omega arith) (rest .0 .in-range) in
     let date = fine .1 .1 .1 .1 .1 .1 .1 in (
       template,
       record {
-        whole = test-same _ _ (rest .0 .1 .1 .0);
-        says-length = test-same _ _ (head .0 .1 .1 .0);
-        says-number = test-same _ _ (head .0 .1 .1 .1 .0);
+        whole = rest .0 .whole;
+        says-length = head .0 .says-length;
+        says-number = head .0 .says-number;
         names = by .1;
         year = test-differs _ _ (date .0);
         month = between-in _ _ _ (date .1 .0);
@@ -107,14 +107,8 @@ follows-accepted template s f =
     let l = f .whole in
     let between = total-between template in
     let long : 21 ≤ length s = omega (arith, between .0) in
-    let head = none-last 1 (headReasons 1 s) (firstOf 1 (lengthReasons s) (byTemplate s)) (
-      le-ltb (length s) 5 (omega arith),
-      (le-ltb 65536 (length s) (omega (arith, between .1)), (same-test _ _ (f .says-length), (same-test _ _ (f .says-number), tt))),
-    ) in
-    let lengths = none-last 1 (lengthReasons s) (byTemplate s) (
-      le-ltb _ _ long,
-      (ne-eqb _ _ (λ e. total-not-22 template (sym l ∙ e)), tt),
-    ) in
+    let headed : Headed 1 s = record { long = omega arith; small = omega (arith, between .1); says-length = f .says-length; says-number = f .says-number } in
+    let not-22 = none-last 1 (reason 5 (eqb (length s) 22) ∷ []) (byTemplate s) (ne-eqb _ _ (λ e. total-not-22 template (sym l ∙ e)), tt) in
     let fine : AllAllowed (after 0 (fields₁ template)) s = (
       refl,
       (
@@ -155,11 +149,8 @@ follows-accepted template s f =
         ),
       ),
     ) in
-    let rest = none-last 1 (templateReasons template s) (read (values₁ template s)) (
-      le-ltb (length s) (total template) (omega arith),
-      (same-test _ _ (none-bad _ s fine), (same-test _ _ l, tt)),
-    ) in
-    head ∙ lengths ∙ template-named template s l (f .names) ∙ rest
+    let fits : Fits (total template) (badPlace (after 0 (fields₁ template)) s) 0 (total template) s = record { enough = omega arith; in-range = none-bad _ s fine; own-kept = refl; whole = l } in
+    opening-last 1 s _ 21 headed long ∙ not-22 ∙ template-named template s l (f .names) ∙ template-last 1 s (read (values₁ template s)) _ _ _ _ fits
 
 pub accepted-exactly-when : (s : List ℕ) → ((vs : List Value) × (outcome₁ s ≡ read vs)) ↔ ((template : Template) × Follows₁ template s)
 accepted-exactly-when s = (

@@ -3,3 +3,4 @@ pub mod FieldsCoverOnce
 pub mod AnswersDetermined
 pub mod StarredYears
 pub mod Entries
+pub mod RefusalNumbers

@@ -1,3 +1,4 @@
 pub mod Section1
 pub mod Accepted
 pub mod Examples
+pub mod Refused

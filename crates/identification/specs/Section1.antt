@@ -2,13 +2,13 @@
 -- Assumes nothing.
 use Prim.Native.Nat.{ℕ, zero, suc}
 use mathlib.Core.List.{List, [], _∷_, _++_}
-use mathlib.Core.Bool.{not, cond}
+use mathlib.Core.Bool.{cond}
 use lib.ListN.{length, getD}
-use lib.Dec.{ltb, eqb}
+use lib.Dec.{eqb}
 use lib.IntN.{ℤ, pos}
 use Rattle.octets.specs.Octets.{beAt, signOf, realYear}
 use Rattle.layout.specs.Fields.{Value, none, is, plain, wholeIn, naturalIn, Meaning, unsigned, signed, Field, held, notOnes, raw, signedPresent, lacking, after, badPlace, valuesOf}
-use Rattle.layout.specs.Outcomes.{Outcome, refused, read, refusedBy, Reason, reason, badField, firstOf, headReasons, noRefusal}
+use Rattle.layout.specs.Outcomes.{Outcome, refused, read, refusedBy, reason, firstOf, openingReasons, templateReasons, noRefusal}
 use Rattle.layout.specs.Time.{time, timeIn}
 use Rattle.layout.specs.declared.Refusal.{Refusal}
 use Rattle.identification.specs.declared.Template.{Template}
@@ -101,15 +101,9 @@ realYearOf one = wholeIn (valueAt one 18)
 -- ---- the outcome
 
 -- 7, 8 and 11, once the template is known
-abbrev pub templateReasons : Template → List ℕ → List Reason
-templateReasons template s =
-    reason 7 (ltb (length s) (total template))
-    ∷ badField (badPlace (after 0 (fields₁ template)) s)
-    ∷ reason 11 (not (eqb (length s) (total template)))
-    ∷ []
-
 unfoldable pub asTemplate : Template → List ℕ → Outcome
-asTemplate template s = firstOf 1 (templateReasons template s) (read (values₁ template s))
+asTemplate template s =
+    firstOf 1 (templateReasons (total template) (badPlace (after 0 (fields₁ template)) s) 0 (total template) s) (read (values₁ template s))
 
 -- 1.0 has the calendar, 1.1 the offset, 1.2 both; any other number is not listed
 unfoldable pub byNumber : ℕ → List ℕ → Outcome
@@ -123,11 +117,8 @@ unfoldable pub byTemplate : List ℕ → Outcome
 byTemplate s = cond (eqb (length s) 21) (asTemplate noTemplate s) (byNumber (beAt s 22 2) s)
 
 -- 5: under 21 octets, or 22
-abbrev pub lengthReasons : List ℕ → List Reason
-lengthReasons s = reason 5 (ltb (length s) 21) ∷ reason 5 (eqb (length s) 22) ∷ []
-
 unfoldable pub outcome₁ : List ℕ → Outcome
-outcome₁ s = firstOf 1 (headReasons 1 s) (firstOf 1 (lengthReasons s) (byTemplate s))
+outcome₁ s = firstOf 1 (openingReasons 1 21 s) (firstOf 1 (reason 5 (eqb (length s) 22) ∷ []) (byTemplate s))
 
 -- ---- what a program's answer says
 

@@ -4,7 +4,6 @@ ghost use mathlib.Core.List.{_++_, _∷_};
 ghost use lib.IntN.{pos};
 ghost use Rattle.octets.specs.Octets.{beAt, signOf, realYear};
 ghost use Rattle.layout.specs.Fields.{is, after, badPlace, lowestBad, valuesOf};
-ghost use Rattle.layout.specs.Outcomes.{refused};
 ghost use Rattle.layout.specs.Time.{time};
 ghost use Rattle.identification.specs.Section1.{outcome₁, byTemplate, asTemplate, fields₁, origin, year, statusAndType, total, values₁, valuesIn, templateIn, told, refusalIn};
 use layout::Refusal;
@@ -61,15 +60,12 @@ pub enum Answer {
 pub fn read(section: &[u8]) -> Answer
     ensures { λ r. ⌜ told r ≡ outcome₁ (now (section .entry)) ⌝ }
 {
-    let head = layout::head_refusal(section, 1);
-    if head != 0 {
-        return refusal(head, 0);
-    }
-    if section.len() < 21 {
-        return refusal(5, 0);
+    let refused = layout::opening_refusal(section, 1, 21);
+    if refused.number != 0 {
+        return Answer::Refused(refused);
     }
     if section.len() == 22 {
-        return refusal(5, 0);
+        return Answer::Refused(Refusal::of(5, 1));
     }
     read_by_template(section)
 }
@@ -80,22 +76,8 @@ pub fn refusal_of(answer: Answer) -> Refusal
 {
     match answer {
         Answer::Refused(x) => x,
-        Answer::Read(_) => Refusal {
-            number: 0,
-            section: 0,
-            place: 0,
-        },
+        Answer::Read(_) => Refusal::none(),
     }
-}
-
-fn refusal(number: u8, place: usize) -> Answer
-    ensures { λ r. ⌜ told r ≡ refused number 1 place ⌝ }
-{
-    Answer::Refused(Refusal {
-        number,
-        section: 1,
-        place,
-    })
 }
 
 // Length 21 has no template; otherwise octets 22-23 are its number.
@@ -110,7 +92,7 @@ fn read_by_template(section: &[u8]) -> Answer
         0 => read_as(section, Template::Calendar),
         1 => read_as(section, Template::Offset),
         2 => read_as(section, Template::CalendarAndOffset),
-        _ => refusal(6, 0),
+        _ => Answer::Refused(Refusal::of(6, 1)),
     }
 }
 
@@ -119,15 +101,10 @@ fn read_as(section: &[u8], template: Template) -> Answer
     ensures { λ r. ⌜ told r ≡ asTemplate template (now (section .entry)) ⌝ }
 {
     let length = total_of(template);
-    if section.len() < length {
-        return refusal(7, 0);
-    }
     let bad = bad_place(section, template);
-    if bad != 0 {
-        return refusal(8, bad);
-    }
-    if section.len() != length {
-        return refusal(11, 0);
+    let refused = layout::template_refusal(section, 1, length, bad, 0, length);
+    if refused.number != 0 {
+        return Answer::Refused(refused);
     }
     Answer::Read(record_of(section, template))
 }

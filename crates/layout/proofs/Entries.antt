@@ -5,15 +5,27 @@ use mathlib.Core.Bool.{cond}
 use denote.Ref.{now}
 use Rattle.octets.specs.Octets.{beAt}
 use Rattle.layout.specs.Fields.{between, notOnes, notZero, unsigned, orMissing, means, signed, after, valuesOf, lowestBad}
-use Rattle.layout.specs.Outcomes.{firstNumber, headReasons}
+use Rattle.layout.specs.Outcomes.{noRefusal, refusal, headReasons, firstRefusal, openingReasons, templateReasons}
 use Rattle.layout.specs.Missing.{in32, inSigned}
 use Rattle.layout.specs.Time.{time, timeIn}
 use Rattle.layout.specs.Spans.{spanAfter}
 use Rattle.entry.specs.Entry.{Entry}
 use Rattle.layout.proofs as code
 
-pub head-refusal : Entry code.head_refusal.Reads.Asked code.head_refusal.Reads.Learnt code.head_refusal.Statement.statement (λ given r later. r ≡ firstNumber (headReasons (given .1 .0) (now (given .0))))
+pub refusal-none : Entry code.Refusal.none.Reads.Asked code.Refusal.none.Reads.Learnt code.Refusal.none.Statement.statement (λ given r later. r ≡ noRefusal)
+refusal-none = record { takes = λ lent given. tt; ends = code.Refusal.none.Met.met; tells = λ lent given r later e. e }
+
+pub refusal-of : Entry code.Refusal.of.Reads.Asked code.Refusal.of.Reads.Learnt code.Refusal.of.Statement.statement (λ given r later. r ≡ refusal (given .0) (given .1 .0) 0)
+refusal-of = record { takes = λ lent given. tt; ends = code.Refusal.of.Met.met; tells = λ lent given r later e. e }
+
+pub head-refusal : Entry code.head_refusal.Reads.Asked code.head_refusal.Reads.Learnt code.head_refusal.Statement.statement (λ given r later. r ≡ firstRefusal (given .1 .0) (headReasons (given .1 .0) (now (given .0))))
 head-refusal = record { takes = λ lent given. tt; ends = code.head_refusal.Met.met; tells = λ lent given r later e. e }
+
+pub opening-refusal : Entry code.opening_refusal.Reads.Asked code.opening_refusal.Reads.Learnt code.opening_refusal.Statement.statement (λ given r later. r ≡ firstRefusal (given .1 .0) (openingReasons (given .1 .0) (given .1 .1 .0) (now (given .0))))
+opening-refusal = record { takes = λ lent given. tt; ends = code.opening_refusal.Met.met; tells = λ lent given r later e. e }
+
+pub template-refusal : Entry code.template_refusal.Reads.Asked code.template_refusal.Reads.Learnt code.template_refusal.Statement.statement (λ given r later. r ≡ firstRefusal (given .1 .0) (templateReasons (given .1 .1 .0) (given .1 .1 .1 .0) (given .1 .1 .1 .1 .0) (given .1 .1 .1 .1 .1 .0) (now (given .0))))
+template-refusal = record { takes = λ lent given. tt; ends = code.template_refusal.Met.met; tells = λ lent given r later e. e }
 
 pub octet-within : Entry code.octet_within.Reads.Asked code.octet_within.Reads.Learnt code.octet_within.Statement.statement (λ given r later. r ≡ cond (between (given .1 .1 .0) (given .1 .1 .1 .0) (beAt (now (given .0)) (given .1 .0) 1)) (given .1 .1 .1 .1 .0) (given .1 .0))
 octet-within = record { takes = λ lent given. tt; ends = code.octet_within.Met.met; tells = λ lent given r later e. e }

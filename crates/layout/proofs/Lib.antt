@@ -1,5 +1,6 @@
 pub mod Blocks
 pub mod Outcomes
+pub mod Refusals
 pub mod Ranges
 pub mod Untold
 pub mod Shown

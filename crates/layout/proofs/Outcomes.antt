@@ -1,33 +1,18 @@
 -- Laws of outcomes, for every section and every list of reasons.
 -- Assumes nothing.
 use mathlib.Core.Path.{_≡_, refl, sym, ap, _∙_}
-use mathlib.Core.List.{List, [], _∷_}
+use mathlib.Core.List.{List, [], _∷_, _++_}
 use mathlib.Core.Bool.{Bool, true, false, cond}
-use Prim.Native.Nat.{ℕ}
+use Prim.Native.Nat.{ℕ, _≤_}
 use native.Mathlib.Omega.{arith}
-use lib.Dec.{eqb}
+use lib.Dec.{eqb, ltb}
+use lib.ListN.{length}
+use borrow.Author.Tests.{le-ltb, ltb-false, eqb-false, not-true}
+use Rattle.octets.specs.Octets.{beAt}
 use Rattle.layout.specs.Fields.{Value}
-use Rattle.layout.specs.Outcomes.{Reason, Outcome, refused, read, ifRead, firstOf, firstNumber, headReasons}
-
--- ---- reasons of no place, as one number
-
-unfoldable Placeless : List Reason → Type 0
-Placeless [] = Unit {0}
-Placeless (r ∷ rs) = (r .place ≡ 0) × (eqb (r .number) 0 ≡ false) × Placeless rs
-
-as-number : (section : ℕ) (rs : List Reason) (o : Outcome) → Placeless rs → firstOf section rs o ≡ cond (eqb (firstNumber rs) 0) o (refused (firstNumber rs) section 0)
-unfolding firstOf firstNumber Placeless
-as-number section [] o p = refl
-as-number section (r ∷ rs) o p = by-holding (as-number section rs o (p .2)) (r .holds)
-  where
-    by-holding : firstOf section rs o ≡ cond (eqb (firstNumber rs) 0) o (refused (firstNumber rs) section 0) → (t : Bool) → cond t (refused (r .number) section (r .place)) (firstOf section rs o) ≡ cond (eqb (cond t (r .number) (firstNumber rs)) 0) o (refused (cond t (r .number) (firstNumber rs)) section 0)
-    by-holding rest true = rw (p .0, p .1)
-    by-holding rest false = rest
-
--- the four reasons of a section's head
-pub head-first : (section : ℕ) (s : List ℕ) (o : Outcome) → firstOf section (headReasons section s) o ≡ cond (eqb (firstNumber (headReasons section s)) 0) o (refused (firstNumber (headReasons section s)) section 0)
-unfolding Placeless
-head-first section s o = as-number section (headReasons section s) o (refl, refl, (refl, refl, (refl, refl, (refl, refl, tt))))
+use Rattle.layout.specs.Outcomes.{Reason, reason, Outcome, refused, read, refusal, refusalOf, refusedBy, ifRead, firstOf, firstRefusal, noRefusal, headReasons, openingReasons, totalReasons, templateReasons}
+use Rattle.layout.specs.declared.Refusal.{Refusal}
+use Rattle.layout.proofs.Ranges.{test-same, same-test}
 
 -- ---- accepted: no reason holds
 
@@ -50,6 +35,159 @@ pub none-last : (section : ℕ) (rs : List Reason) (o : Outcome) → NoneHold rs
 unfolding firstOf NoneHold
 none-last section [] o h = refl
 none-last section (r ∷ rs) o h = rw (h .0) (none-last section rs o (h .1))
+
+-- one list of reasons and then another
+pub first-append : (section : ℕ) (a b : List Reason) (o : Outcome) → firstOf section (a ++ b) o ≡ firstOf section a (firstOf section b o)
+unfolding firstOf
+first-append section [] b o = refl
+first-append section (r ∷ rs) b o = rw (first-append section rs b o)
+
+-- ---- the first reason as a program's refusal
+
+-- no reason that holds has the number 0
+unfoldable pub Numbered : List Reason → Type 0
+Numbered [] = Unit {0}
+Numbered (r ∷ rs) = (r .holds ≡ true → eqb (r .number) 0 ≡ false) × Numbered rs
+
+-- the number of `x` tells whether it is one, and so it does with one reason more
+with-one-more : {A : Type 0} (tell : Refusal → A) (o : A) (x y : Refusal) {rest : A} → rest ≡ cond (eqb (x .number) 0) o (tell x) → (t : Bool) → (t ≡ true → eqb (y .number) 0 ≡ false) → let z = cond t y x in cond t (tell y) rest ≡ cond (eqb (z .number) 0) o (tell z)
+with-one-more tell o x y e true n = rw (n refl)
+with-one-more tell o x y e false n = e
+
+-- so the number tells whether there is one
+pub by-refusal : (section : ℕ) (rs : List Reason) (o : Outcome) → Numbered rs → firstOf section rs o ≡ cond (eqb (firstRefusal section rs .number) 0) o (refusedBy (firstRefusal section rs))
+unfolding firstOf firstRefusal Numbered
+by-refusal section [] o p = refl
+by-refusal section (r ∷ rs) o p =
+    with-one-more refusedBy o (firstRefusal section rs) (refusal (r .number) section (r .place)) (by-refusal section rs o (p .1)) (r .holds) (p .0)
+
+-- it is 0 where none holds, and where it is 0 none does
+pub none-refusal : (section : ℕ) (rs : List Reason) → NoneHold rs → firstRefusal section rs ≡ noRefusal
+unfolding firstRefusal NoneHold
+none-refusal section [] h = refl
+none-refusal section (r ∷ rs) h = rw (h .0) (none-refusal section rs (h .1))
+
+pub zero-none : (section : ℕ) (rs : List Reason) → Numbered rs → firstRefusal section rs .number ≡ 0 → NoneHold rs
+unfolding firstRefusal NoneHold Numbered
+zero-none section [] p e = tt
+zero-none section (r ∷ rs) p e = by-holding (zero-none section rs (p .1)) (r .holds) refl e
+  where
+    by-holding : (firstRefusal section rs .number ≡ 0 → NoneHold rs) → (t : Bool) → r .holds ≡ t → cond t (refusal (r .number) section (r .place)) (firstRefusal section rs) .number ≡ 0 → (r .holds ≡ false) × NoneHold rs
+    by-holding rest true h e = absurd (eqb-false (r .number) 0 (p .0 h) e)
+    by-holding rest false h e = (h, rest e)
+
+-- the first is the outcome's where nothing else refuses
+pub refusal-first : (section : ℕ) (rs : List Reason) (vs : List Value) → firstRefusal section rs ≡ refusalOf (firstOf section rs (read vs))
+unfolding firstOf firstRefusal
+refusal-first section [] vs = refl
+refusal-first section (r ∷ rs) vs = by-holding (firstOf section rs (read vs)) (refusal-first section rs vs) (r .holds)
+  where
+    by-holding : {x : Refusal} (o : Outcome) → x ≡ refusalOf o → (t : Bool) → cond t (refusal (r .number) section (r .place)) x ≡ refusalOf (cond t (refused (r .number) section (r .place)) o)
+    by-holding o rest true = refl
+    by-holding o rest false = rest
+
+-- and one list and then another is the first of the one, or else of the other
+pub refusal-append : (section : ℕ) (a b : List Reason) → Numbered a → firstRefusal section (a ++ b) ≡ cond (eqb (firstRefusal section a .number) 0) (firstRefusal section b) (firstRefusal section a)
+unfolding firstRefusal Numbered
+refusal-append section [] b p = refl
+refusal-append section (r ∷ rs) b p =
+    with-one-more (λ x. x) (firstRefusal section b) (firstRefusal section rs) (refusal (r .number) section (r .place)) (refusal-append section rs b (p .1)) (r .holds) (p .0)
+
+-- ---- the reasons that the sections share: none of them has the number 0
+
+head-numbered : (section : ℕ) (s : List ℕ) → Numbered (headReasons section s)
+unfolding Numbered
+head-numbered section s = ((λ h. refl), ((λ h. refl), ((λ h. refl), ((λ h. refl), tt))))
+
+opening-numbered : (section least : ℕ) (s : List ℕ) → Numbered (openingReasons section least s)
+unfolding Numbered openingReasons
+opening-numbered section least s = ((λ h. refl), ((λ h. refl), ((λ h. refl), ((λ h. refl), ((λ h. refl), tt)))))
+
+template-numbered : (smallest bad own total : ℕ) (s : List ℕ) → Numbered (templateReasons smallest bad own total s)
+unfolding Numbered templateReasons totalReasons
+template-numbered smallest bad own total s = ((λ h. refl), ((λ h. refl), (not-true _, ((λ h. refl), tt))))
+
+-- 5 behind the head's
+pub opening-by-head : (section least : ℕ) (s : List ℕ) → let head = firstRefusal section (headReasons section s) in firstRefusal section (openingReasons section least s) ≡ cond (eqb (head .number) 0) (cond (ltb (length s) least) (refusal 5 section 0) noRefusal) head
+unfolding openingReasons firstRefusal
+opening-by-head section least s = refusal-append section (headReasons section s) (reason 5 (ltb (length s) least) ∷ []) (head-numbered section s)
+
+-- what a reader goes by: the refusal that it is told of them, and its number
+pub head-first : (section : ℕ) (s : List ℕ) (o : Outcome) → firstOf section (headReasons section s) o ≡ cond (eqb (firstRefusal section (headReasons section s) .number) 0) o (refusedBy (firstRefusal section (headReasons section s)))
+head-first section s o = by-refusal section (headReasons section s) o (head-numbered section s)
+
+pub opening-first : (section least : ℕ) (s : List ℕ) (o : Outcome) → firstOf section (openingReasons section least s) o ≡ cond (eqb (firstRefusal section (openingReasons section least s) .number) 0) o (refusedBy (firstRefusal section (openingReasons section least s)))
+opening-first section least s o = by-refusal section (openingReasons section least s) o (opening-numbered section least s)
+
+pub template-first : (section smallest bad own total : ℕ) (s : List ℕ) (o : Outcome) → firstOf section (templateReasons smallest bad own total s) o ≡ cond (eqb (firstRefusal section (templateReasons smallest bad own total s) .number) 0) o (refusedBy (firstRefusal section (templateReasons smallest bad own total s)))
+template-first section smallest bad own total s o = by-refusal section (templateReasons smallest bad own total s) o (template-numbered smallest bad own total s)
+
+-- ---- what it means that none of them holds
+
+-- 1 to 4
+pub record Headed (section : ℕ) (s : List ℕ) : Type 0 where
+  pub long : 5 ≤ length s
+  pub small : length s ≤ 65536
+  pub says-length : beAt s 1 4 ≡ length s
+  pub says-number : beAt s 5 1 ≡ section
+
+-- 7, 8, the section's own number, and the total
+pub record Fits (smallest bad own total : ℕ) (s : List ℕ) : Type 0 where
+  pub enough : smallest ≤ length s
+  pub in-range : bad ≡ 0
+  pub own-kept : own ≡ 0
+  pub whole : length s ≡ total
+
+module _ (section : ℕ) (s : List ℕ) (o : Outcome) where
+  none-headed : NoneHold (headReasons section s) → Headed section s
+  unfolding NoneHold
+  none-headed h =
+      record {
+        long = ltb-false _ _ (h .0);
+        small = ltb-false _ _ (h .1 .0);
+        says-length = test-same _ _ (h .1 .1 .0);
+        says-number = test-same _ _ (h .1 .1 .1 .0);
+      }
+
+  pub head-read : (vs : List Value) → firstOf section (headReasons section s) o ≡ read vs → Headed section s × (o ≡ read vs)
+  head-read vs e = let h = read-none section (headReasons section s) o vs e in (none-headed (h .0), h .1)
+
+  pub head-last : Headed section s → firstOf section (headReasons section s) o ≡ o
+  unfolding NoneHold
+  head-last h =
+      none-last section (headReasons section s) o
+      (le-ltb _ _ (h .long), (le-ltb _ _ (h .small), (same-test _ _ (h .says-length), (same-test _ _ (h .says-number), tt))))
+
+  pub opening-read : (least : ℕ) (vs : List Value) → firstOf section (openingReasons section least s) o ≡ read vs → Headed section s × (least ≤ length s) × (o ≡ read vs)
+  unfolding NoneHold openingReasons
+  opening-read least vs e =
+      let h = read-none section (openingReasons section least s) o vs e in
+      (none-headed (h .0 .0, (h .0 .1 .0, (h .0 .1 .1 .0, (h .0 .1 .1 .1 .0, tt)))), ltb-false _ _ (h .0 .1 .1 .1 .1 .0), h .1)
+
+  pub opening-last : (least : ℕ) → Headed section s → least ≤ length s → firstOf section (openingReasons section least s) o ≡ o
+  unfolding NoneHold openingReasons
+  opening-last least h l =
+      let five = reason 5 (ltb (length s) least) ∷ [] in
+      first-append section (headReasons section s) five o ∙ ap (firstOf section (headReasons section s)) (none-last section five o (le-ltb _ _ l, tt)) ∙ head-last h
+
+  pub template-read : (smallest bad own total : ℕ) (vs : List Value) → firstOf section (templateReasons smallest bad own total s) o ≡ read vs → Fits smallest bad own total s × (o ≡ read vs)
+  unfolding NoneHold templateReasons totalReasons
+  template-read smallest bad own total vs e =
+      let h = read-none section (templateReasons smallest bad own total s) o vs e in (
+        record {
+          enough = ltb-false _ _ (h .0 .0);
+          in-range = test-same _ _ (h .0 .1 .0);
+          own-kept = test-same _ _ (h .0 .1 .1 .0);
+          whole = test-same _ _ (h .0 .1 .1 .1 .0);
+        },
+        h .1,
+      )
+
+  pub template-last : (smallest bad own total : ℕ) → Fits smallest bad own total s → firstOf section (templateReasons smallest bad own total s) o ≡ o
+  unfolding NoneHold templateReasons totalReasons
+  template-last smallest bad own total f =
+      none-last section (templateReasons smallest bad own total s) o
+      (le-ltb _ _ (f .enough), (same-test _ _ (f .in-range), (same-test _ _ (f .own-kept), (same-test _ _ (f .whole), tt))))
 
 -- ---- a caller that takes an answer apart
 

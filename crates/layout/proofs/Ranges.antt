@@ -1,9 +1,9 @@
 -- What a field's test says of its number, and back.
 -- Assumes nothing.
 use mathlib.Core.Path.{_≡_, refl}
-use mathlib.Core.Bool.{Bool, true, false, not, _&&_, _||_}
+use mathlib.Core.Bool.{Bool, true, false, not, cond, _&&_, _||_}
 use mathlib.Core.Logic.{_⊎_, inl, inr}
-use Prim.Native.Nat.{ℕ, _≤_}
+use Prim.Native.Nat.{ℕ, suc, _≤_}
 use lib.Dec.{leb, eqb}
 use native.Mathlib.Omega.{arith}
 use borrow.Author.Tests.{leb-true, le-leb, eqb-true, eqb-false, eq-eqb, ne-eqb, not-true, not-false}
@@ -38,3 +38,8 @@ test-same m n e = eqb-true m n (not-false _ e)
 
 pub same-test : (m n : ℕ) → m ≡ n → not (eqb m n) ≡ false
 same-test m n e = rw (eq-eqb m n e)
+
+-- a number by which a test says that it holds, where 0 says that it does not
+pub test-unmet : (n : ℕ) (t : Bool) → cond t (suc n) 0 ≡ 0 → t ≡ false
+test-unmet n true e = absurd (omega arith)
+test-unmet n false e = refl

@@ -1,5 +1,6 @@
 pub mod Fields
 pub mod Outcomes
+pub mod Refusals
 pub mod Missing
 pub mod Time
 pub mod Examples

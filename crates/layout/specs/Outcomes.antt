@@ -1,7 +1,7 @@
 -- What a reader answers: a refusal, by the first reason that holds, or what was read.
 -- Assumes nothing.
 use Prim.Native.Nat.{ℕ}
-use mathlib.Core.List.{List, [], _∷_}
+use mathlib.Core.List.{List, [], _∷_, _++_}
 use mathlib.Core.Bool.{Bool, not, cond}
 use lib.ListN.{length}
 use lib.Dec.{ltb, eqb}
@@ -60,10 +60,12 @@ unfoldable pub firstOf : ℕ → List Reason → Outcome → Outcome
 firstOf section [] o = o
 firstOf section (r ∷ rs) o = cond (r .holds) (refused (r .number) section (r .place)) (firstOf section rs o)
 
--- the number of the first reason that holds, and 0 if none does
-unfoldable pub firstNumber : List Reason → ℕ
-firstNumber [] = 0
-firstNumber (r ∷ rs) = cond (r .holds) (r .number) (firstNumber rs)
+-- the same as a program's refusal, and zeros if none holds
+unfoldable pub firstRefusal : ℕ → List Reason → Refusal
+firstRefusal section [] = noRefusal
+firstRefusal section (r ∷ rs) = cond (r .holds) (refusal (r .number) section (r .place)) (firstRefusal section rs)
+
+-- ---- the reasons that the sections share
 
 -- 1 to 4, which every section has: under 5 octets, above 65,536, octets 1-4 differ from the lent length, wrong number
 abbrev pub headReasons : ℕ → List ℕ → List Reason
@@ -73,3 +75,20 @@ headReasons section s =
     ∷ reason 3 (not (eqb (beAt s 1 4) (length s)))
     ∷ reason 4 (not (eqb (beAt s 5 1) section))
     ∷ []
+
+-- and then 5: under the octets that are needed to know the template
+unfoldable pub openingReasons : ℕ → ℕ → List ℕ → List Reason
+openingReasons section least s = headReasons section s ++ (reason 5 (ltb (length s) least) ∷ [])
+
+-- 11: the section has not its total
+unfoldable pub totalReasons : ℕ → List ℕ → List Reason
+totalReasons total s = reason 11 (not (eqb (length s) total)) ∷ []
+
+-- once the template is known: 7, under its smallest total; 8, at the place of the lowest bad field; a number that the section has of its own
+-- (9, 10), where 0 says that it is not met; then the total
+unfoldable pub templateReasons : ℕ → ℕ → ℕ → ℕ → List ℕ → List Reason
+templateReasons smallest bad own total s =
+    reason 7 (ltb (length s) smallest)
+    ∷ badField bad
+    ∷ reason own (not (eqb own 0))
+    ∷ totalReasons total s

@@ -5,7 +5,7 @@ ghost use mathlib.Core.Path.{_≡_};
 ghost use mathlib.Core.Bool.{cond};
 ghost use Rattle.octets.specs.Octets.{beAt};
 ghost use Rattle.layout.specs.Fields.{between, notOnes, notZero, means, unsigned, signed, orMissing, after, valuesOf, lowestBad};
-ghost use Rattle.layout.specs.Outcomes.{headReasons, firstNumber};
+ghost use Rattle.layout.specs.Outcomes.{refusal, noRefusal, headReasons, openingReasons, templateReasons, totalReasons, firstRefusal};
 ghost use Rattle.layout.specs.Missing.{in32, inSigned};
 ghost use Rattle.layout.specs.Time.{time, timeIn};
 ghost use Rattle.layout.specs.Spans.{spanAfter};
@@ -17,23 +17,101 @@ pub struct Refusal {
     pub place: usize,
 }
 
-// The number of the first of refusals 1 to 4 that a lent section meets, and 0 if it meets none.
-pub fn head_refusal(s: &[u8], section: u8) -> u8
-    ensures { λ r. ⌜ r ≡ firstNumber (headReasons section (now (s .entry))) ⌝ }
+impl Refusal {
+    // What stands for none: zeros.
+    pub fn none() -> Self
+        ensures { λ r. ⌜ r ≡ noRefusal ⌝ }
+    {
+        Self {
+            number: 0,
+            section: 0,
+            place: 0,
+        }
+    }
+
+    // One of no place.
+    pub fn of(number: u8, section: u8) -> Self
+        ensures { λ r. ⌜ r ≡ refusal number section 0 ⌝ }
+    {
+        Self {
+            number,
+            section,
+            place: 0,
+        }
+    }
+}
+
+// ---- the first refusal of a lent section that is met, and none if none is
+
+// 1 to 4, which every section has.
+pub fn head_refusal(s: &[u8], section: u8) -> Refusal
+    ensures { λ r. ⌜ r ≡ firstRefusal section (headReasons section (now (s .entry))) ⌝ }
 {
     if s.len() < 5 {
-        return 1;
+        return Refusal::of(1, section);
     }
     if 65536 < s.len() {
-        return 2;
+        return Refusal::of(2, section);
     }
     if octets::u32_at(s, 1) as usize != s.len() {
-        return 3;
+        return Refusal::of(3, section);
     }
     if octets::u8_at(s, 5) != section {
-        return 4;
+        return Refusal::of(4, section);
     }
-    0
+    Refusal::none()
+}
+
+// 1 to 4, and 5 for a section of fewer than `least` octets.
+pub fn opening_refusal(s: &[u8], section: u8, least: usize) -> Refusal
+    ensures { λ r. ⌜ r ≡ firstRefusal section (openingReasons section least (now (s .entry))) ⌝ }
+{
+    let head = head_refusal(s, section);
+    if head.number != 0 {
+        return head;
+    }
+    if s.len() < least {
+        return Refusal::of(5, section);
+    }
+    Refusal::none()
+}
+
+// Once the template is known: 7, 8 at the place `bad`, the section's own number, and the total's; 0 says that no field is out of its
+// range, and that the own number is not met.
+pub fn template_refusal(
+    s: &[u8],
+    section: u8,
+    smallest: usize,
+    bad: usize,
+    own: u8,
+    total: usize,
+) -> Refusal
+    ensures { λ r. ⌜ r ≡ firstRefusal section (templateReasons smallest bad own total (now (s .entry))) ⌝ }
+{
+    if s.len() < smallest {
+        return Refusal::of(7, section);
+    }
+    if bad != 0 {
+        return Refusal {
+            number: 8,
+            section,
+            place: bad,
+        };
+    }
+    if own != 0 {
+        return Refusal::of(own, section);
+    }
+    total_refusal(s, section, total)
+}
+
+// 11: the section has not its total.
+fn total_refusal(s: &[u8], section: u8, total: usize) -> Refusal
+    ensures { λ r. ⌜ r ≡ firstRefusal section (totalReasons total (now (s .entry))) ⌝ }
+{
+    if s.len() != total {
+        return Refusal::of(11, section);
+    }
+    Refusal::none()
 }
 
 // ---- the lowest field out of its range: each answers `at` if its field is, and else `later`, the place that the fields

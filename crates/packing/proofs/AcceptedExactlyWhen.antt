@@ -4,15 +4,16 @@ use Prim.Native.Nat.{ℕ}
 use native.Mathlib.Omega.{arith}
 use mathlib.Core.Path.{_≡_, refl, sym, _∙_}
 use mathlib.Core.Logic.{_↔_}
-use mathlib.Core.List.{List}
-use lib.ListN.{length}
-use borrow.Author.Tests.{le-ltb, ltb-false}
-use Rattle.layout.specs.Fields.{Value, after, placed, valuesOf, AllAllowed}
-use Rattle.layout.specs.Outcomes.{read, firstOf, headReasons}
+use mathlib.Core.List.{List, [], _∷_}
+use mathlib.Core.Bool.{not}
+use lib.Dec.{eqb}
+use Rattle.octets.specs.Octets.{beAt}
+use Rattle.layout.specs.Fields.{Value, after, placed, badPlace, valuesOf, AllAllowed}
+use Rattle.layout.specs.Outcomes.{read, reason}
 use Rattle.layout.proofs.Blocks.{bad-none, none-bad}
-use Rattle.layout.proofs.Outcomes.{NoneHold, read-none, none-last}
+use Rattle.layout.proofs.Outcomes.{Headed, Fits, NoneHold, read-none, none-last, head-read, head-last, opening-read, opening-last, template-read, template-last}
 use Rattle.layout.proofs.Ranges.{between-in, in-between, test-same, same-test}
-use Rattle.packing.specs.Section5.{fields₅, simpleReasons, asSimple, reasons₅, outcome₅}
+use Rattle.packing.specs.Section5.{fields₅, asSimple, outcome₅}
 use Rattle.packing.specs.Section7.{fields₇, reasons₇, outcome₇}
 use Rattle.packing.specs.Accepted.{Follows₅, Follows₇}
 
@@ -21,16 +22,15 @@ use Rattle.packing.specs.Accepted.{Follows₅, Follows₇}
 pub accepted-follows₅ : (s : List ℕ) (vs : List Value) → outcome₅ s ≡ read vs → Follows₅ s × (vs ≡ valuesOf (after 0 fields₅) s)
 unfolding outcome₅ asSimple NoneHold AllAllowed placed fields₅
 accepted-follows₅ s vs e =
-    let head = read-none 5 (headReasons 5 s) _ vs e in
-    let five = read-none 5 (reasons₅ s) _ vs (head .1) in
-    let simple = read-none 5 (simpleReasons s) (read (valuesOf (after 0 fields₅) s)) vs (five .1) in
-    let fine = bad-none 0 1 fields₅ s (omega arith) (test-same _ _ (simple .0 .1 .0)) in
-    let long = test-same _ _ (simple .0 .1 .1 .0) in (
+    let head = opening-read 5 s _ 11 vs e in
+    let six = read-none 5 (reason 6 (not (eqb (beAt s 10 2) 0)) ∷ []) _ vs (head .2) in
+    let simple = template-read 5 s (read (valuesOf (after 0 fields₅) s)) _ _ _ _ vs (six .1) in
+    let fine = bad-none 0 1 fields₅ s (omega arith) (simple .0 .in-range) in (
       record {
-        whole = long;
-        says-length = test-same _ _ (head .0 .1 .1 .0) ∙ long;
-        says-number = test-same _ _ (head .0 .1 .1 .1 .0);
-        template = test-same _ _ (five .0 .1 .0);
+        whole = simple .0 .whole;
+        says-length = head .0 .says-length ∙ simple .0 .whole;
+        says-number = head .0 .says-number;
+        template = test-same _ _ (six .0 .0);
         bits = between-in _ _ _ (fine .1 .1 .1 .1 .1 .1 .1 .0) .1;
       },
       cc,
@@ -40,19 +40,13 @@ pub follows-accepted₅ : (s : List ℕ) → Follows₅ s → outcome₅ s ≡ r
 unfolding outcome₅ asSimple NoneHold AllAllowed placed fields₅
 follows-accepted₅ s f =
     let l = f .whole in
-    let head = none-last 5 (headReasons 5 s) (firstOf 5 (reasons₅ s) (asSimple s)) (
-      le-ltb (length s) 5 (omega arith),
-      (le-ltb 65536 (length s) (omega arith), (same-test _ _ (f .says-length ∙ sym l), (same-test _ _ (f .says-number), tt))),
-    ) in
-    let five = none-last 5 (reasons₅ s) (asSimple s) (le-ltb (length s) 11 (omega arith), (same-test _ _ (f .template), tt)) in
+    let headed : Headed 5 s = record { long = omega arith; small = omega arith; says-length = f .says-length ∙ sym l; says-number = f .says-number } in
+    let six = none-last 5 (reason 6 (not (eqb (beAt s 10 2) 0)) ∷ []) (asSimple s) (same-test _ _ (f .template), tt) in
     let fine : AllAllowed (after 0 fields₅) s =
     (refl, (refl, (refl, (refl, (refl, (refl, (refl, (in-between 0 32 _ (omega arith, f .bits), (refl, tt)))))))))
     in
-    let simple = none-last 5 (simpleReasons s) (read (valuesOf (after 0 fields₅) s)) (
-      le-ltb (length s) 21 (omega arith),
-      (same-test _ _ (none-bad (after 0 fields₅) s fine), (same-test _ _ l, tt)),
-    ) in
-    head ∙ five ∙ simple
+    let fits : Fits 21 (badPlace (after 0 fields₅) s) 0 21 s = record { enough = omega arith; in-range = none-bad (after 0 fields₅) s fine; own-kept = refl; whole = l } in
+    opening-last 5 s _ 11 headed (omega arith) ∙ six ∙ template-last 5 s (read (valuesOf (after 0 fields₅) s)) _ _ _ _ fits
 
 pub accepted-exactly-when₅ : (s : List ℕ) → ((vs : List Value) × (outcome₅ s ≡ read vs)) ↔ Follows₅ s
 accepted-exactly-when₅ s = (
@@ -66,13 +60,13 @@ module _ (n bits : ℕ) (s : List ℕ) where
   pub accepted-follows₇ : (vs : List Value) → outcome₇ n bits s ≡ read vs → Follows₇ n bits s × (vs ≡ valuesOf (after 0 (fields₇ n bits)) s)
   unfolding outcome₇ NoneHold
   accepted-follows₇ vs e =
-      let head = read-none 7 (headReasons 7 s) _ vs e in
+      let head = head-read 7 s _ vs e in
       let seven = read-none 7 (reasons₇ n bits s) (read (valuesOf (after 0 (fields₇ n bits)) s)) vs (head .1) in (
         record {
-          small = ltb-false _ _ (head .0 .1 .0);
+          small = head .0 .small;
           whole = test-same _ _ (seven .0 .0);
-          says-length = test-same _ _ (head .0 .1 .1 .0);
-          says-number = test-same _ _ (head .0 .1 .1 .1 .0);
+          says-length = head .0 .says-length;
+          says-number = head .0 .says-number;
         },
         cc,
       )
@@ -80,11 +74,8 @@ module _ (n bits : ℕ) (s : List ℕ) where
   pub follows-accepted₇ : Follows₇ n bits s → outcome₇ n bits s ≡ read (valuesOf (after 0 (fields₇ n bits)) s)
   unfolding outcome₇ NoneHold
   follows-accepted₇ f =
-      let head = none-last 7 (headReasons 7 s) (firstOf 7 (reasons₇ n bits s) (read (valuesOf (after 0 (fields₇ n bits)) s))) (
-        le-ltb (length s) 5 (omega (arith, f .whole)),
-        (le-ltb _ _ (f .small), (same-test _ _ (f .says-length), (same-test _ _ (f .says-number), tt))),
-      ) in
-      head ∙ none-last 7 (reasons₇ n bits s) (read (valuesOf (after 0 (fields₇ n bits)) s)) (same-test _ _ (f .whole), tt)
+      let headed : Headed 7 s = record { long = omega (arith, f .whole); small = f .small; says-length = f .says-length; says-number = f .says-number } in
+      head-last 7 s _ headed ∙ none-last 7 (reasons₇ n bits s) (read (valuesOf (after 0 (fields₇ n bits)) s)) (same-test _ _ (f .whole), tt)
 
   pub accepted-exactly-when₇ : ((vs : List Value) × (outcome₇ n bits s ≡ read vs)) ↔ Follows₇ n bits s
   accepted-exactly-when₇ = (

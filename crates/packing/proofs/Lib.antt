@@ -6,3 +6,4 @@ pub mod StarredPacking
 pub mod Runs
 pub mod Unpacks
 pub mod Entries
+pub mod RefusalNumbers

@@ -5,3 +5,4 @@ pub mod Unpacking
 pub mod Reading
 pub mod Accepted
 pub mod Examples
+pub mod Refused

@@ -3,11 +3,10 @@
 use Prim.Native.Nat.{ℕ}
 use mathlib.Core.List.{List, [], _∷_}
 use mathlib.Core.Bool.{not}
-use lib.ListN.{length}
-use lib.Dec.{ltb, eqb}
+use lib.Dec.{eqb}
 use Rattle.octets.specs.Octets.{beAt}
 use Rattle.layout.specs.Fields.{Value, is, plain, Field, raw, rawSigned, ranged, after, badPlace, valuesOf}
-use Rattle.layout.specs.Outcomes.{Outcome, read, refusedBy, Reason, reason, badField, firstOf, headReasons, noRefusal}
+use Rattle.layout.specs.Outcomes.{Outcome, read, refusedBy, reason, firstOf, openingReasons, templateReasons, noRefusal}
 use Rattle.layout.specs.declared.Refusal.{Refusal}
 use Rattle.packing.specs.declared.Packing.{Packing}
 use Rattle.packing.specs.declared.Answer.{Answer}
@@ -25,22 +24,12 @@ abbrev pub bitsAt : List ℕ → ℕ
 bitsAt s = beAt s 20 1
 
 -- 7, 8 and 11, once the template is known
-abbrev pub simpleReasons : List ℕ → List Reason
-simpleReasons s =
-    reason 7 (ltb (length s) 21)
-    ∷ badField (badPlace (after 0 fields₅) s)
-    ∷ reason 11 (not (eqb (length s) 21))
-    ∷ []
-
 unfoldable pub asSimple : List ℕ → Outcome
-asSimple s = firstOf 5 (simpleReasons s) (read (valuesOf (after 0 fields₅) s))
+asSimple s = firstOf 5 (templateReasons 21 (badPlace (after 0 fields₅) s) 0 21 s) (read (valuesOf (after 0 fields₅) s))
 
 -- 5: under 11 octets; 6: the template is not 0
-abbrev pub reasons₅ : List ℕ → List Reason
-reasons₅ s = reason 5 (ltb (length s) 11) ∷ reason 6 (not (eqb (beAt s 10 2) 0)) ∷ []
-
 unfoldable pub outcome₅ : List ℕ → Outcome
-outcome₅ s = firstOf 5 (headReasons 5 s) (firstOf 5 (reasons₅ s) (asSimple s))
+outcome₅ s = firstOf 5 (openingReasons 5 11 s) (firstOf 5 (reason 6 (not (eqb (beAt s 10 2) 0)) ∷ []) (asSimple s))
 
 -- ---- what a program's answer says
 

@@ -1,7 +1,6 @@
 // Sections 5 and 7: simple packing, and unpacking into a lent row.
 ghost use mathlib.Core.Path.{_≡_};
 ghost use Rattle.layout.specs.Fields.{after, valuesOf};
-ghost use Rattle.layout.specs.Outcomes.{refused};
 ghost use Rattle.packing.specs.Section5.{outcome₅, asSimple, fields₅, valuesIn₅, told₅, refusalIn₅};
 ghost use Rattle.packing.specs.Section7.{outcome₇, told₇, refusalIn₇};
 ghost use Rattle.packing.specs.Unpacking.{Unpacks};
@@ -48,15 +47,12 @@ pub enum Unpacked {
 pub fn read(section: &[u8]) -> Answer
     ensures { λ r. ⌜ told₅ r ≡ outcome₅ (now (section .entry)) ⌝ }
 {
-    let head = layout::head_refusal(section, 5);
-    if head != 0 {
-        return refusal(head, 0);
-    }
-    if section.len() < 11 {
-        return refusal(5, 0);
+    let refused = layout::opening_refusal(section, 5, 11);
+    if refused.number != 0 {
+        return Answer::Refused(refused);
     }
     if octets::u16_at(section, 10) != 0 {
-        return refusal(6, 0);
+        return Answer::Refused(Refusal::of(6, 5));
     }
     read_simple(section)
 }
@@ -65,27 +61,12 @@ pub fn read(section: &[u8]) -> Answer
 fn read_simple(section: &[u8]) -> Answer
     ensures { λ r. ⌜ told₅ r ≡ asSimple (now (section .entry)) ⌝ }
 {
-    if section.len() < 21 {
-        return refusal(7, 0);
-    }
     let bad = layout::octet_within(section, 20, 0, 32, 0);
-    if bad != 0 {
-        return refusal(8, bad);
-    }
-    if section.len() != 21 {
-        return refusal(11, 0);
+    let refused = layout::template_refusal(section, 5, 21, bad, 0, 21);
+    if refused.number != 0 {
+        return Answer::Refused(refused);
     }
     Answer::Read(record_of(section))
-}
-
-fn refusal(number: u8, place: usize) -> Answer
-    ensures { λ r. ⌜ told₅ r ≡ refused number 5 place ⌝ }
-{
-    Answer::Refused(Refusal {
-        number,
-        section: 5,
-        place,
-    })
 }
 
 // The record of a section that follows template 5.0.
@@ -109,28 +90,18 @@ fn record_of(section: &[u8]) -> Packing
 pub fn read_data(section: &[u8], values: u32, bits: u8) -> DataAnswer
     ensures { λ r. ⌜ told₇ r ≡ outcome₇ values bits (now (section .entry)) ⌝ }
 {
-    let head = layout::head_refusal(section, 7);
-    if head != 0 {
-        return data_refusal(head);
+    let refused = layout::head_refusal(section, 7);
+    if refused.number != 0 {
+        return DataAnswer::Refused(refused);
     }
     // At most 40 bits: the product never wraps.
     let packed = (values as u64 * bits as u64 + 7) / 8;
     if section.len() as u64 != 5 + packed {
-        return data_refusal(15);
+        return DataAnswer::Refused(Refusal::of(15, 7));
     }
     DataAnswer::Read(DataSection {
         length: octets::u32_at(section, 1),
         number: octets::u8_at(section, 5),
-    })
-}
-
-fn data_refusal(number: u8) -> DataAnswer
-    ensures { λ r. ⌜ told₇ r ≡ refused number 7 0 ⌝ }
-{
-    DataAnswer::Refused(Refusal {
-        number,
-        section: 7,
-        place: 0,
     })
 }
 
@@ -148,11 +119,7 @@ pub fn unpack(section5: &[u8], section7: &[u8], row: &mut [u32]) -> Unpacked
         return Unpacked::Refused(data_refusal_of(seven));
     };
     if row.len() != packing.values as usize {
-        return Unpacked::Refused(Refusal {
-            number: 18,
-            section: 0,
-            place: 0,
-        });
+        return Unpacked::Refused(Refusal::of(18, 0));
     }
     bits::unpack_bits(&section7[5..], packing.bits as u32, row);
     Unpacked::Written(packing.values)
@@ -164,11 +131,7 @@ pub fn refusal_of(answer: Answer) -> Refusal
 {
     match answer {
         Answer::Refused(x) => x,
-        Answer::Read(_) => Refusal {
-            number: 0,
-            section: 0,
-            place: 0,
-        },
+        Answer::Read(_) => Refusal::none(),
     }
 }
 
@@ -177,10 +140,6 @@ pub fn data_refusal_of(answer: DataAnswer) -> Refusal
 {
     match answer {
         DataAnswer::Refused(x) => x,
-        DataAnswer::Read(_) => Refusal {
-            number: 0,
-            section: 0,
-            place: 0,
-        },
+        DataAnswer::Read(_) => Refusal::none(),
     }
 }

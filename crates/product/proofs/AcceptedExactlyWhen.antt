@@ -9,22 +9,23 @@ use mathlib.Core.List.{List}
 use mathlib.Core.Bool.{Bool, true, false, cond, _&&_}
 use lib.ListN.{length}
 use lib.Dec.{eqb}
-use borrow.Author.Tests.{le-ltb, ltb-false, ne-eqb, eqb-false}
+use borrow.Author.Tests.{ne-eqb, eqb-false}
 use Rattle.octets.specs.Octets.{beAt}
 use Rattle.layout.specs.Fields.{Value, after, placed, badPlace, AllAllowed}
-use Rattle.layout.specs.Outcomes.{read, firstOf, headReasons}
+use Rattle.layout.specs.Outcomes.{read}
 use Rattle.layout.specs.Time.{time}
 use Rattle.layout.proofs.Blocks.{bad-clear, bad-none, clear-bad, none-bad}
-use Rattle.layout.proofs.Outcomes.{NoneHold, read-none, none-last}
-use Rattle.layout.proofs.Ranges.{between-in, in-between, test-differs, differs-test, test-same, same-test}
+use Rattle.layout.proofs.Outcomes.{Headed, Fits, opening-read, opening-last, template-read, template-last}
+use Rattle.layout.proofs.Ranges.{between-in, in-between, test-differs, differs-test, test-unmet}
 use Rattle.product.specs.Blocks.{process, forecast, scaled, surface, common, interval}
-use Rattle.product.specs.Section4.{templateOf, frontEnd, partEnd, rangesEnd, total, rangesAt, membersAt, coordinatesAt, totalIn, values₄, templateReasons, asTemplate, byTemplate, lengthReasons, outcome₄}
+use Rattle.product.specs.Templates.{templateOf, frontEnd, partEnd, rangesEnd, total, rangesAt, membersAt, coordinatesAt, lackOfRanges, fieldsIn, totalIn, values₄}
+use Rattle.product.specs.Section4.{asTemplate, byTemplate, outcome₄}
 use Rattle.product.specs.Accepted.{octetsBefore, countAt, forecastAt, EndKept, IntervalKept, Follows₄}
-use Rattle.product.specs.declared.PartKind.{PartKind}
-use Rattle.product.specs.declared.PartKind.the-variants.{None as noPart, Ensemble, Cluster, Probability, Aerosol}
-use Rattle.product.specs.declared.Template.{Template}
-use Rattle.product.specs.declared.Template.the-variants.{NotListed, Listed}
-use Rattle.product.proofs.Templates.{bad-is, part-enough}
+use Rattle.product.specs.declared.templates.PartKind.{PartKind}
+use Rattle.product.specs.declared.templates.PartKind.the-variants.{None as noPart, Ensemble, Cluster, Probability, Aerosol}
+use Rattle.product.specs.declared.templates.Template.{Template}
+use Rattle.product.specs.declared.templates.Template.the-variants.{NotListed, Listed}
+use Rattle.product.proofs.FieldsByBlock.{bad-is, part-enough}
 
 -- ---- document 01's table and the blocks
 
@@ -122,25 +123,25 @@ template-of NotListed s vs e = let z : _≡_ {A = ℕ} 0 1 = cc in absurd (omega
 template-of (Listed kind timed) s vs e = (kind, timed, refl, e)
 
 pub accepted-follows : (s : List ℕ) (vs : List Value) → outcome₄ s ≡ read vs → (kind : PartKind) × (timed : Bool) × Follows₄ kind timed s × (vs ≡ values₄ kind timed s)
-unfolding outcome₄ asTemplate NoneHold
+unfolding outcome₄ asTemplate
 accepted-follows s vs e =
-    let head = read-none 4 (headReasons 4 s) _ vs e in
-    let by = template-of (templateOf (beAt s 8 2)) s vs (read-none 4 (lengthReasons s) _ vs (head .1) .1) in
+    let head = opening-read 4 s _ 9 vs e in
+    let by = template-of (templateOf (beAt s 8 2)) s vs (head .2) in
     let kind = by .0 in
     let timed = by .1 in
-    let rest = read-none 4 (templateReasons kind timed s) (read (values₄ kind timed s)) vs (by .3) in
-    let bad = sym (bad-is kind timed (rangesAt kind timed s) (membersAt kind s) (coordinatesAt s) s) ∙ test-same _ _ (rest .0 .1 .0) in
+    let fits = template-read 4 s (read (values₄ kind timed s)) _ _ _ _ vs (by .3) in
+    let bad = sym (bad-is kind timed (rangesAt kind timed s) (membersAt kind s) (coordinatesAt s) s) ∙ fits .0 .in-range in
     let fine = bad-clear (frontEnd kind) 1 common s _ (omega arith) bad in (
       kind,
       timed,
       record {
-        small = ltb-false _ _ (head .0 .1 .0);
-        whole = test-same _ _ (rest .0 .1 .1 .1 .0) ∙ sym (table-total kind timed s);
-        says-length = test-same _ _ (head .0 .1 .1 .0);
-        says-number = test-same _ _ (head .0 .1 .1 .1 .0);
+        small = head .0 .small;
+        whole = fits .0 .whole ∙ sym (table-total kind timed s);
+        says-length = head .0 .says-length;
+        says-number = head .0 .says-number;
         names = by .2;
         forecast-time = rw (table-places kind .0) (time-in (frontEnd kind) s (fine .0));
-        interval = interval-in kind s timed (fine .1) (rest .0 .1 .1 .0);
+        interval = interval-in kind s timed (fine .1) (test-unmet 8 _ (fits .0 .own-kept));
       },
       cc,
     )
@@ -158,7 +159,7 @@ pub follows-total : (kind : PartKind) (timed : Bool) (s : List ℕ) → Follows�
 follows-total kind timed s f = f .whole ∙ table-total kind timed s
 
 pub follows-accepted : (kind : PartKind) (timed : Bool) (s : List ℕ) → Follows₄ kind timed s → outcome₄ s ≡ read (values₄ kind timed s)
-unfolding outcome₄ asTemplate byTemplate NoneHold
+unfolding outcome₄ asTemplate byTemplate
 follows-accepted kind timed s f =
     let l = follows-total kind timed s f in
     let kept = in-interval kind s timed (f .interval) in
@@ -169,16 +170,11 @@ follows-accepted kind timed s f =
     ∙ clear-bad (after (frontEnd kind) common) s _ fine
     ∙ kept .0
     in
-    let head = none-last 4 (headReasons 4 s) (firstOf 4 (lengthReasons s) (byTemplate (templateOf (beAt s 8 2)) s)) (
-      le-ltb (length s) 5 (omega arith),
-      (le-ltb _ _ (f .small), (same-test _ _ (f .says-length), (same-test _ _ (f .says-number), tt))),
-    ) in
-    let lengths = none-last 4 (lengthReasons s) (byTemplate (templateOf (beAt s 8 2)) s) (le-ltb (length s) 9 (omega arith), tt) in
-    let rest = none-last 4 (templateReasons kind timed s) (read (values₄ kind timed s)) (
-      le-ltb (length s) (total kind timed 1 0 0) (omega arith),
-      (same-test _ _ bad, (kept .1, (same-test _ _ l, tt))),
-    ) in
-    head ∙ lengths ∙ ap (λ (t : Template). byTemplate t s) (f .names) ∙ rest
+    let headed : Headed 4 s = record { long = omega arith; small = f .small; says-length = f .says-length; says-number = f .says-number } in
+    let fits : Fits (total kind timed 1 0 0) (badPlace (after 0 (fieldsIn kind timed s)) s) (lackOfRanges timed (rangesAt kind timed s)) (totalIn kind timed s) s = record { enough = omega arith; in-range = bad; own-kept = rw (kept .1); whole = l } in
+    opening-last 4 s _ 9 headed (omega arith)
+    ∙ ap (λ (t : Template). byTemplate t s) (f .names)
+    ∙ template-last 4 s (read (values₄ kind timed s)) _ _ _ _ fits
 
 pub accepted-exactly-when : (s : List ℕ) → ((vs : List Value) × (outcome₄ s ≡ read vs)) ↔ ((kind : PartKind) × (timed : Bool) × Follows₄ kind timed s)
 accepted-exactly-when s = (

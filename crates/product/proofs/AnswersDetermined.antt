@@ -10,15 +10,16 @@ use Rattle.layout.specs.Outcomes.{Outcome, refused, read, refusal}
 use Rattle.layout.specs.Time.{timeIn}
 use Rattle.layout.proofs.Untold.{to32, back32, toSigned, backSigned, toTime, told-back}
 use Rattle.product.specs.Blocks.{parameterIn, processIn, forecastIn, scaledIn, surfaceIn, ensembleIn, clusterIn, probabilityIn, aerosolIn, endIn, intervalIn}
-use Rattle.product.specs.Section4.{tagIn, aheadIn, behindIn, valuesIn, told, outcome₄}
-use Rattle.product.specs.declared.Process.{Process}
-use Rattle.product.specs.declared.Scaled.{Scaled}
-use Rattle.product.specs.declared.Surface.{Surface}
-use Rattle.product.specs.declared.Part.{Part}
-use Rattle.product.specs.declared.Part.the-variants.{None as partNone, Ensemble as isEnsemble, Cluster as isCluster, Probability as isProbability, Aerosol as isAerosol}
-use Rattle.product.specs.declared.Interval.{Interval}
-use Rattle.product.specs.declared.Interval.the-variants.{None as noInterval, Ends}
-use Rattle.product.specs.declared.Product.{Product}
+use Rattle.product.specs.Blocks.{tagIn, aheadIn, behindIn, valuesIn}
+use Rattle.product.specs.Section4.{told, outcome₄}
+use Rattle.product.specs.declared.blocks.Process.{Process}
+use Rattle.product.specs.declared.blocks.Scaled.{Scaled}
+use Rattle.product.specs.declared.blocks.Surface.{Surface}
+use Rattle.product.specs.declared.blocks.Part.{Part}
+use Rattle.product.specs.declared.blocks.Part.the-variants.{None as partNone, Ensemble as isEnsemble, Cluster as isCluster, Probability as isProbability, Aerosol as isAerosol}
+use Rattle.product.specs.declared.blocks.Interval.{Interval}
+use Rattle.product.specs.declared.blocks.Interval.the-variants.{None as noInterval, Ends}
+use Rattle.product.specs.declared.blocks.Product.{Product}
 use Rattle.product.specs.declared.Answer.{Answer}
 use Rattle.product.specs.declared.Answer.the-variants.{Read, Refused}
 

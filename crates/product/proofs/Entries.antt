@@ -13,20 +13,20 @@ read = record { takes = λ lent given. tt; ends = code.read.Met.met; tells = λ 
 pub refusal-of : Entry code.refusal_of.Reads.Asked code.refusal_of.Reads.Learnt code.refusal_of.Statement.statement (λ given r later. r ≡ refusalIn (given .0))
 refusal-of = record { takes = λ lent given. tt; ends = code.refusal_of.Met.met; tells = λ lent given r later e. e }
 
-pub range-span : Entry code.range_span.Reads.Asked code.range_span.Reads.Learnt code.range_span.Statement.statement (λ given r later. r ≡ rangeSpan (now (given .0)) (given .1 .0))
-range-span = record { takes = λ lent given. tt; ends = code.range_span.Met.met; tells = λ lent given r later e. e }
+pub range-span : Entry code.views.range_span.Reads.Asked code.views.range_span.Reads.Learnt code.views.range_span.Statement.statement (λ given r later. r ≡ rangeSpan (now (given .0)) (given .1 .0))
+range-span = record { takes = λ lent given. tt; ends = code.views.range_span.Met.met; tells = λ lent given r later e. e }
 
-pub member-span : Entry code.member_span.Reads.Asked code.member_span.Reads.Learnt code.member_span.Statement.statement (λ given r later. r ≡ memberSpan (now (given .0)))
-member-span = record { takes = λ lent given. tt; ends = code.member_span.Met.met; tells = λ lent given r later e. e }
+pub member-span : Entry code.views.member_span.Reads.Asked code.views.member_span.Reads.Learnt code.views.member_span.Statement.statement (λ given r later. r ≡ memberSpan (now (given .0)))
+member-span = record { takes = λ lent given. tt; ends = code.views.member_span.Met.met; tells = λ lent given r later e. e }
 
-pub coordinate-span : Entry code.coordinate_span.Reads.Asked code.coordinate_span.Reads.Learnt code.coordinate_span.Statement.statement (λ given r later. r ≡ coordinateSpan (now (given .0)))
-coordinate-span = record { takes = λ lent given. tt; ends = code.coordinate_span.Met.met; tells = λ lent given r later e. e }
+pub coordinate-span : Entry code.views.coordinate_span.Reads.Asked code.views.coordinate_span.Reads.Learnt code.views.coordinate_span.Statement.statement (λ given r later. r ≡ coordinateSpan (now (given .0)))
+coordinate-span = record { takes = λ lent given. tt; ends = code.views.coordinate_span.Met.met; tells = λ lent given r later e. e }
 
-pub time-range : Entry code.time_range.Reads.Asked code.time_range.Reads.Learnt code.time_range.Statement.statement (λ given r later. now r ≡ rangeOf (now (given .0)) (given .1 .0))
-time-range = record { takes = λ lent given. tt; ends = code.time_range.Met.met; tells = λ lent given r later e. e }
+pub time-range : Entry code.views.time_range.Reads.Asked code.views.time_range.Reads.Learnt code.views.time_range.Statement.statement (λ given r later. now r ≡ rangeOf (now (given .0)) (given .1 .0))
+time-range = record { takes = λ lent given. tt; ends = code.views.time_range.Met.met; tells = λ lent given r later e. e }
 
-pub member-list : Entry code.member_list.Reads.Asked code.member_list.Reads.Learnt code.member_list.Statement.statement (λ given r later. now r ≡ membersOf (now (given .0)))
-member-list = record { takes = λ lent given. tt; ends = code.member_list.Met.met; tells = λ lent given r later e. e }
+pub member-list : Entry code.views.member_list.Reads.Asked code.views.member_list.Reads.Learnt code.views.member_list.Statement.statement (λ given r later. now r ≡ membersOf (now (given .0)))
+member-list = record { takes = λ lent given. tt; ends = code.views.member_list.Met.met; tells = λ lent given r later e. e }
 
-pub coordinate-list : Entry code.coordinate_list.Reads.Asked code.coordinate_list.Reads.Learnt code.coordinate_list.Statement.statement (λ given r later. now r ≡ coordinatesOf (now (given .0)))
-coordinate-list = record { takes = λ lent given. tt; ends = code.coordinate_list.Met.met; tells = λ lent given r later e. e }
+pub coordinate-list : Entry code.views.coordinate_list.Reads.Asked code.views.coordinate_list.Reads.Learnt code.views.coordinate_list.Statement.statement (λ given r later. now r ≡ coordinatesOf (now (given .0)))
+coordinate-list = record { takes = λ lent given. tt; ends = code.views.coordinate_list.Met.met; tells = λ lent given r later e. e }

@@ -9,10 +9,10 @@ use Rattle.layout.specs.Fields.{after, starts, placed, octetsOf}
 use Rattle.layout.specs.Time.{time}
 use Rattle.layout.proofs.Blocks.{covers}
 use Rattle.product.specs.Blocks.{head, parameter, process, forecast, scaled, surface, common, ensemble, cluster, probability, aerosol, interval}
-use Rattle.product.specs.Section4.{ahead, behind, front, timeRanges, lists, fields₄, total}
-use Rattle.product.specs.declared.PartKind.{PartKind}
-use Rattle.product.specs.declared.PartKind.the-variants.{None as noPart, Ensemble, Cluster, Probability, Aerosol}
-use Rattle.product.proofs.Templates.{total-is}
+use Rattle.product.specs.Templates.{ahead, behind, front, timeRanges, lists, fields₄, total}
+use Rattle.product.specs.declared.templates.PartKind.{PartKind}
+use Rattle.product.specs.declared.templates.PartKind.the-variants.{None as noPart, Ensemble, Cluster, Probability, Aerosol}
+use Rattle.product.proofs.FieldsByBlock.{total-is}
 
 -- the first octets of a template's fields with one time range, five members and two coordinate values, where it has such lists
 abbrev StartsAt : PartKind → Bool → ℕ → List ℕ → Type 0

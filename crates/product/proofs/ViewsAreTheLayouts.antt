@@ -18,13 +18,14 @@ use Rattle.layout.specs.Spans.{nowhere, spanAfter, octetsIn, Within}
 use Rattle.layout.specs.declared.Span.{Span}
 use Rattle.layout.proofs.Outcomes.{of-both}
 use Rattle.layout.proofs.Spans.{octets-after, after-within}
-use Rattle.product.specs.Section4.{templateOf, partEnd, rangesEnd, total, rangesAt, membersAt, coordinatesAt, fieldsIn, totalIn, outcome₄}
+use Rattle.product.specs.Templates.{templateOf, partEnd, rangesEnd, total, rangesAt, membersAt, coordinatesAt, fieldsIn, totalIn}
+use Rattle.product.specs.Section4.{outcome₄}
 use Rattle.product.specs.Views.{templateRead, rangeBy, membersBy, coordinatesBy, rangeSpan, memberSpan, coordinateSpan, rangeOf, membersOf, coordinatesOf, strung}
 use Rattle.product.specs.Accepted.{Follows₄}
-use Rattle.product.specs.declared.PartKind.{PartKind}
-use Rattle.product.specs.declared.Template.{Template}
-use Rattle.product.specs.declared.Template.the-variants.{NotListed, Listed}
-use Rattle.product.proofs.Templates.{shown-are}
+use Rattle.product.specs.declared.templates.PartKind.{PartKind}
+use Rattle.product.specs.declared.templates.Template.{Template}
+use Rattle.product.specs.declared.templates.Template.the-variants.{NotListed, Listed}
+use Rattle.product.proofs.FieldsByBlock.{shown-are}
 use Rattle.product.proofs.AcceptedExactlyWhen.{accepted-follows, follows-accepted, follows-total}
 
 -- ---- a section that is read

@@ -6,10 +6,10 @@ use mathlib.Core.List.{List}
 use mathlib.Core.Bool.{Bool, true, false}
 use lib.ListN.{length}
 use Rattle.octets.specs.Octets.{beAt}
-use Rattle.product.specs.Section4.{templateOf}
-use Rattle.product.specs.declared.PartKind.{PartKind}
-use Rattle.product.specs.declared.PartKind.the-variants.{None as noPart, Ensemble, Cluster, Probability, Aerosol}
-use Rattle.product.specs.declared.Template.the-variants.{Listed}
+use Rattle.product.specs.Templates.{templateOf}
+use Rattle.product.specs.declared.templates.PartKind.{PartKind}
+use Rattle.product.specs.declared.templates.PartKind.the-variants.{None as noPart, Ensemble, Cluster, Probability, Aerosol}
+use Rattle.product.specs.declared.templates.Template.the-variants.{Listed}
 
 -- document 01's table, its rows for 4.0, 4.1, 4.4, 4.5, 4.8, 4.9, 4.11, 4.14 and 4.46: the octets before the coordinate values, with n and
 -- Nc where they stand

@@ -1,22 +1,26 @@
 -- The blocks that section 4's templates are made of: fields that stand together, wherever they start, and beside each what a
--- program's block says.
+-- program's block says; at last the record.
 -- Assumes nothing.
+use Prim.Native.Nat.{ℕ}
 use mathlib.Core.List.{List, [], _∷_, _++_}
-use Rattle.layout.specs.Fields.{Value, none, is, plain, Field, raw, present, signedPresent, optional, optionalSigned}
+use Rattle.layout.specs.Fields.{Value, none, is, which, plain, Field, raw, present, signedPresent, optional, optionalSigned}
 use Rattle.layout.specs.Missing.{in32, inSigned}
 use Rattle.layout.specs.Time.{time, timeIn}
-use Rattle.product.specs.declared.Parameter.{Parameter}
-use Rattle.product.specs.declared.Process.{Process}
-use Rattle.product.specs.declared.Forecast.{Forecast}
-use Rattle.product.specs.declared.Scaled.{Scaled}
-use Rattle.product.specs.declared.Surface.{Surface}
-use Rattle.product.specs.declared.EnsemblePart.{EnsemblePart}
-use Rattle.product.specs.declared.ClusterPart.{ClusterPart}
-use Rattle.product.specs.declared.ProbabilityPart.{ProbabilityPart}
-use Rattle.product.specs.declared.AerosolPart.{AerosolPart}
-use Rattle.product.specs.declared.IntervalEnd.{IntervalEnd}
-use Rattle.product.specs.declared.Interval.{Interval}
-use Rattle.product.specs.declared.Interval.the-variants.{None as noInterval, Ends}
+use Rattle.product.specs.declared.blocks.Parameter.{Parameter}
+use Rattle.product.specs.declared.blocks.Process.{Process}
+use Rattle.product.specs.declared.blocks.Forecast.{Forecast}
+use Rattle.product.specs.declared.blocks.Scaled.{Scaled}
+use Rattle.product.specs.declared.blocks.Surface.{Surface}
+use Rattle.product.specs.declared.blocks.EnsemblePart.{EnsemblePart}
+use Rattle.product.specs.declared.blocks.ClusterPart.{ClusterPart}
+use Rattle.product.specs.declared.blocks.ProbabilityPart.{ProbabilityPart}
+use Rattle.product.specs.declared.blocks.AerosolPart.{AerosolPart}
+use Rattle.product.specs.declared.blocks.IntervalEnd.{IntervalEnd}
+use Rattle.product.specs.declared.blocks.Interval.{Interval}
+use Rattle.product.specs.declared.blocks.Interval.the-variants.{None as noInterval, Ends}
+use Rattle.product.specs.declared.blocks.Part.{Part}
+use Rattle.product.specs.declared.blocks.Part.the-variants.{None as partNone, Ensemble as isEnsemble, Cluster as isCluster, Probability as isProbability, Aerosol as isAerosol}
+use Rattle.product.specs.declared.blocks.Product.{Product}
 
 -- ---- what every template has
 
@@ -147,3 +151,40 @@ endIn x = plain (x .year) ∷ (timeIn (x .time) ++ (plain (x .n) ∷ plain (x .�
 unfoldable pub intervalIn : Interval → List Value
 intervalIn noInterval = none ∷ []
 intervalIn (Ends x) = endIn x
+
+-- ---- the record
+
+-- which part it is, and its values ahead of the generating process and behind the surfaces
+unfoldable pub tagIn : Part → ℕ
+tagIn partNone = 0
+tagIn (isEnsemble x) = 1
+tagIn (isCluster x) = 2
+tagIn (isProbability x) = 3
+tagIn (isAerosol x) = 4
+
+unfoldable pub aheadIn : Part → List Value
+aheadIn partNone = []
+aheadIn (isEnsemble x) = []
+aheadIn (isCluster x) = []
+aheadIn (isProbability x) = []
+aheadIn (isAerosol x) = aerosolIn x
+
+unfoldable pub behindIn : Part → List Value
+behindIn partNone = []
+behindIn (isEnsemble x) = ensembleIn x
+behindIn (isCluster x) = clusterIn x
+behindIn (isProbability x) = probabilityIn x
+behindIn (isAerosol x) = []
+
+unfoldable pub valuesIn : Product → List Value
+valuesIn x =
+    plain (x .length)
+    ∷ plain (x .number)
+    ∷ plain (x .nv)
+    ∷ plain (x .template)
+    ∷ which (tagIn (x .part))
+    ∷ (parameterIn (x .parameter)
+    ++ (aheadIn (x .part)
+    ++ ((processIn (x .process) ++ (forecastIn (x .forecast) ++ (surfaceIn (x .«first_surface») ++ surfaceIn (x .«second_surface»))))
+    ++ (behindIn (x .part)
+    ++ intervalIn (x .interval)))))

@@ -8,9 +8,10 @@ use Rattle.octets.specs.Octets.{beAt}
 use Rattle.layout.specs.Outcomes.{ifRead}
 use Rattle.layout.specs.Spans.{nowhere, spanAfter, octetsIn}
 use Rattle.layout.specs.declared.Span.{Span}
-use Rattle.product.specs.Section4.{templateOf, partEnd, rangesEnd, rangesAt, membersAt, coordinatesAt, outcome₄}
-use Rattle.product.specs.declared.Template.{Template}
-use Rattle.product.specs.declared.Template.the-variants.{NotListed, Listed}
+use Rattle.product.specs.Templates.{templateOf, partEnd, rangesEnd, rangesAt, membersAt, coordinatesAt}
+use Rattle.product.specs.Section4.{outcome₄}
+use Rattle.product.specs.declared.templates.Template.{Template}
+use Rattle.product.specs.declared.templates.Template.the-variants.{NotListed, Listed}
 
 -- the template by which a section is read; a refused section has none
 abbrev pub templateRead : List ℕ → Template

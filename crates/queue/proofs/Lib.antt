@@ -11,3 +11,4 @@ pub mod QueueIsJoin
 pub mod Concatenation
 pub mod StarredQueues
 pub mod Entries
+pub mod RefusalNumbers

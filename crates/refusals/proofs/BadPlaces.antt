@@ -14,13 +14,14 @@ use Rattle.layout.proofs.Ranges.{both-hold}
 use Rattle.identification.specs.Section1.{fields₁, origin, statusAndType}
 use Rattle.identification.specs.declared.Template.{Template as Template₁}
 use Rattle.identification.specs.declared.Template.the-variants.{None as noTemplate, Calendar, Offset, CalendarAndOffset}
-use Rattle.grid.specs.Section3.{fields₃, gridHead, scaled as scaled₃, earth, counts, corners, common as common₃, pole, poles}
-use Rattle.grid.specs.declared.Template.{Template as Template₃}
-use Rattle.grid.specs.declared.Template.the-variants.{LatLon, Rotated, Stretched, StretchedAndRotated}
+use Rattle.grid.specs.Blocks.{gridHead, earthSize, earth, counts, corners, common as common₃, pole, poles}
+use Rattle.grid.specs.Templates.{fields₃}
+use Rattle.grid.specs.declared.templates.Template.{Template as Template₃}
+use Rattle.grid.specs.declared.templates.Template.the-variants.{LatLon, Rotated, Stretched, StretchedAndRotated}
 use Rattle.product.specs.Blocks.{head, parameter, process, forecast, scaled, surface, common, ensemble, cluster, probability, aerosol, interval}
-use Rattle.product.specs.Section4.{fields₄, front, ahead, behind, timeRanges, lists}
-use Rattle.product.specs.declared.PartKind.{PartKind}
-use Rattle.product.specs.declared.PartKind.the-variants.{None as noPart, Ensemble, Cluster, Probability, Aerosol}
+use Rattle.product.specs.Templates.{fields₄, front, ahead, behind, timeRanges, lists}
+use Rattle.product.specs.declared.templates.PartKind.{PartKind}
+use Rattle.product.specs.declared.templates.PartKind.the-variants.{None as noPart, Ensemble, Cluster, Probability, Aerosol}
 use Rattle.packing.specs.Section5.{fields₅}
 
 -- a rule can be broken only in a field of which a record holds the value
@@ -60,7 +61,7 @@ bad₁ Offset s = bad-below _ s refl
 bad₁ CalendarAndOffset s = bad-below _ s refl
 
 pub bad₃ : (template : Template₃) (n : ℕ) (s : List ℕ) → badPlace (after 0 (fields₃ template n)) s ≤ 65536
-unfolding below placed fields₃ gridHead scaled₃ earth counts corners common₃ pole poles
+unfolding below placed fields₃ gridHead earthSize earth counts corners common₃ pole poles
 bad₃ LatLon n s = bad-below _ s refl
 bad₃ Rotated n s = bad-below _ s refl
 bad₃ Stretched n s = bad-below _ s refl

@@ -16,11 +16,13 @@ use Rattle.identification.specs.Section1.{told as told₁, outcome₁, byTempla
 use Rattle.identification.specs.declared.Template.{Template as Template₁}
 use Rattle.identification.specs.declared.Template.the-variants.{None as noTemplate, Calendar, Offset, CalendarAndOffset}
 use Rattle.identification.specs.declared.Answer.the-variants.{Refused as Refused₁}
-use Rattle.grid.specs.Section3.{told as told₃, outcome₃, asTemplate as asTemplate₃, fitting, fittingReasons, templateReasons as templateReasons₃, values₃, numberReasons, templateOf as templateOf₃}
+use Rattle.grid.specs.Templates.{values₃, templateNamed}
+use Rattle.grid.specs.Section3.{told as told₃, outcome₃, asTemplate as asTemplate₃, fitting, fittingReasons, templateReasons as templateReasons₃, numberReasons}
 use Rattle.grid.specs.declared.Answer.the-variants.{Refused as Refused₃}
-use Rattle.product.specs.Section4.{told as told₄, outcome₄, byTemplate as byTemplate₄, asTemplate as asTemplate₄, templateReasons as templateReasons₄, values₄, lengthReasons as lengthReasons₄, templateOf as templateOf₄}
-use Rattle.product.specs.declared.Template.{Template as Template₄}
-use Rattle.product.specs.declared.Template.the-variants.{NotListed, Listed as isListed}
+use Rattle.product.specs.Templates.{values₄, templateOf as templateOf₄}
+use Rattle.product.specs.Section4.{told as told₄, outcome₄, byTemplate as byTemplate₄, asTemplate as asTemplate₄, templateReasons as templateReasons₄, lengthReasons as lengthReasons₄}
+use Rattle.product.specs.declared.templates.Template.{Template as Template₄}
+use Rattle.product.specs.declared.templates.Template.the-variants.{NotListed, Listed as isListed}
 use Rattle.product.specs.declared.Answer.the-variants.{Refused as Refused₄}
 use Rattle.packing.specs.Section5.{fields₅, told₅, outcome₅, asSimple, simpleReasons, reasons₅, valuesAt, bitsAt}
 use Rattle.packing.specs.Section7.{fields₇, told₇, outcome₇, reasons₇}
@@ -165,7 +167,7 @@ identification-refuses s x e = refusal-listed table₁ (outcome₁ s) x (refuses
 pub refuses₃ : (s : List ℕ) → Refuses table₃ (outcome₃ s)
 unfolding outcome₃ asTemplate₃ fitting Right
 refuses₃ s =
-    let template = templateOf₃ s in
+    let template = templateNamed s in
     head-refuses table₃ 3 s (firstOf 3 (numberReasons s) (asTemplate₃ template s)) refl
     (first-refuses table₃ 3 (numberReasons s) (asTemplate₃ template s) (refl, λ h. refl, none, (refl, λ h. refl, none, tt))
     (first-refuses table₃ 3 (templateReasons₃ template s) (fitting template s) (refl, λ h. refl, none, (refl, λ h. h, bad₃ template _ s, tt))

@@ -2,10 +2,10 @@
 use grid::Answer;
 use grid::Common;
 use grid::Earth;
+use grid::EarthSize;
 use grid::Grid;
 use grid::Pole;
 use grid::Poles;
-use grid::Scaled;
 
 pub fn show(section: &[u8]) {
     let answer = grid::read(section);
@@ -72,7 +72,7 @@ fn show_earth(x: Earth) {
     show_scaled(b"minor_axis", x.minor_axis);
 }
 
-fn show_scaled(words: &[u8], x: Scaled) {
+fn show_scaled(words: &[u8], x: EarthSize) {
     let factor = x.factor;
     let value = x.value;
     output::text(b" ");

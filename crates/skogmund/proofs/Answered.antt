@@ -13,19 +13,22 @@ use borrow.Author.Tests.{le-ltb, ltb-false, lt-ltb, ltb-true, le-leb, leb-true, 
 use Rattle.layout.specs.Fields.{Value}
 use Rattle.layout.specs.Outcomes.{refused, read, refusal}
 use Rattle.layout.specs.declared.Refusal.{Refusal}
+use Rattle.layout.specs.Refusals.{Row, Listed}
 use Rattle.layout.proofs.Ranges.{both-hold}
+use Rattle.layout.proofs.Refusals.{positive, proper}
 use Rattle.packing.specs.Unpacking.{unpackOutcome}
+use Rattle.packing.specs.Refused.{unpackTable}
+use Rattle.packing.proofs.RefusalNumbers.{unpack-refuses}
 use Rattle.shelf.specs.declared.Shelf.{Shelf}
 use Rattle.shelf.specs.Shelves.{slotAt, putOf}
 use Rattle.shelf_octets.specs.ShelfOctets.{shelfIn, octetsOf}
 use Rattle.filing.specs.Filing.{Filing, refusedFiling, accepted, filingOf, keptIf, filedBy, filedOf}
+use Rattle.filing.specs.Refused.{filingTable}
+use Rattle.filing.proofs.RefusalNumbers.{filing-refuses}
 use Rattle.queue.specs.Records.{issueFrom}
 use Rattle.queue.specs.declared.QueueFiled.{QueueFiled}
 use Rattle.queue.specs.Queues.{cutOf, recordsFiled, fromStart, queueRefusal, refusedQueue, acceptedQueue, queueFiled}
 use Rattle.report.specs.Texts.{listing}
-use Rattle.refusals.specs.Refusals.{Row, Listed, unpackTable, filingTable}
-use Rattle.refusals.proofs.RefusalNumbers.{unpack-refuses, filing-refuses}
-use Rattle.refusals.proofs.OneNumber.{positive, proper}
 use Rattle.values.specs.Lent.{Done, done, over}
 use Rattle.values.proofs.RecordRead.{accepting}
 use Rattle.values.specs.Records.{withCount}

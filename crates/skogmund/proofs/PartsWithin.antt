@@ -6,7 +6,7 @@ use mathlib.Core.Bool.{Bool, true, false, cond}
 use mathlib.Core.List.{List}
 use lib.Dec.{eqb}
 use Rattle.layout.specs.Spans.{nowhere, Within}
-use Rattle.grid.specs.Section3.{listSpan}
+use Rattle.grid.specs.Views.{listSpan}
 use Rattle.product.specs.Views.{rangeSpan, memberSpan, coordinateSpan}
 use Rattle.grid.proofs.ListShown.{list-within}
 use Rattle.product.proofs.ViewsAreTheLayouts.{range-within, members-within, coordinates-within}

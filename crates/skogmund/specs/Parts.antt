@@ -7,7 +7,7 @@ use lib.Dec.{eqb, leb}
 use lib.ListN.{length}
 use Rattle.layout.specs.Spans.{nowhere}
 use Rattle.layout.specs.declared.Span.{Span}
-use Rattle.grid.specs.Section3.{listSpan}
+use Rattle.grid.specs.Views.{listSpan}
 use Rattle.product.specs.Views.{rangeSpan, memberSpan, coordinateSpan}
 use Rattle.values.specs.Lent.{Done, over}
 use Rattle.skogmund.specs.Entries.{ifRoom}

@@ -2,6 +2,7 @@
 // number: 0 for none, else number x 2^40 + section x 2^32 + place.
 ghost use mathlib.Core.Path.{_≡_};
 ghost use Prim.Native.Nat.{_≤_};
+ghost use Rattle.layout.specs.Refusals.{lastPlace};
 ghost use Rattle.values.specs.Lent.{done};
 ghost use Rattle.skogmund.specs.Entries.{codeOf, doneBoth, rowUnpacked, recordTold, listingTold};
 use layout::Refusal;
@@ -32,9 +33,9 @@ pub extern "C" fn skogmund_read(section: u8, s: &[u8], values: &mut [i64]) -> u6
     code(values::read_into(section, s, values))
 }
 
-// A place is an octet number of a section, of which there are at most 65,536.
+// No refusal's place is above the last.
 pub(crate) fn code(x: Refusal) -> u64
-    requires { ⌜ x .place ≤ 65536 ⌝ }
+    requires { ⌜ x .place ≤ lastPlace ⌝ }
     ensures { λ r. ⌜ r ≡ codeOf x ⌝ }
 {
     x.number as u64 * 0x100_0000_0000 + x.section as u64 * 0x1_0000_0000 + x.place as u64

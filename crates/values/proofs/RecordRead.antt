@@ -14,16 +14,23 @@ use Rattle.octets.specs.Octets.{beAt}
 use Rattle.layout.specs.Fields.{Value, plain}
 use Rattle.layout.specs.Outcomes.{Outcome, refused, read, noRefusal, refusal, refusalOf}
 use Rattle.layout.specs.declared.Refusal.{Refusal}
+use Rattle.layout.specs.Refusals.{Row, row, oneOf, numbersOf, lastPlace, Listed}
 use Rattle.layout.proofs.Outcomes.{either}
+use Rattle.layout.proofs.Refusals.{Refuses, refuses-wider, placeless, head-refuses, Proper, positive, proper}
 use Rattle.identification.specs.Section1.{outcome₁}
+use Rattle.identification.specs.Refused.{table₁}
+use Rattle.identification.proofs.RefusalNumbers.{refuses₁}
 use Rattle.grid.specs.Section3.{outcome₃}
+use Rattle.grid.specs.Refused.{table₃}
+use Rattle.grid.proofs.RefusalNumbers.{refuses₃}
 use Rattle.product.specs.Section4.{outcome₄}
+use Rattle.product.specs.Refused.{table₄}
+use Rattle.product.proofs.RefusalNumbers.{refuses₄}
 use Rattle.packing.specs.Section5.{outcome₅}
-use Rattle.refusals.specs.Refusals.{oneOf, numbersOf, Listed, table₁, table₃, table₄, table₅}
-use Rattle.refusals.proofs.RefusalNumbers.{Refuses, refuses-wider, head-refuses, refuses₁, refuses₃, refuses₄, refuses₅}
-use Rattle.refusals.proofs.OneNumber.{Proper, positive, proper}
+use Rattle.packing.specs.Refused.{table₅}
+use Rattle.packing.proofs.RefusalNumbers.{refuses₅}
 use Rattle.values.specs.Lent.{done}
-use Rattle.values.specs.Refused.{ownNumbers, readTable}
+use Rattle.values.specs.Refused.{readTable}
 use Rattle.values.specs.Records.{numbersIn, withCount, outcome₇alone, sectionOutcome, intoRow, AcceptedWithRoom}
 
 -- ---- a section's own refusals
@@ -37,7 +44,7 @@ by-number P n k a b p q = by (eqb n k) refl
     by false e = q (eqb-false n k e)
 
 each-section : (P : ℕ → Outcome → Type 0) (s : List ℕ) → P 1 (outcome₁ s) → P 3 (outcome₃ s) → P 4 (outcome₄ s) → P 5 (outcome₅ s) → P 7 (outcome₇alone s)
-    → ((n : ℕ) → ownNumbers n ≡ (4 ∷ []) → P n (refused 4 n 0)) → (n : ℕ) → P n (sectionOutcome n s)
+    → ((n : ℕ) → readTable n ≡ (row n (4 ∷ []) ∷ []) → P n (refused 4 n 0)) → (n : ℕ) → P n (sectionOutcome n s)
 unfolding sectionOutcome
 each-section P s one three four five seven other n =
     by-number P n 1 _ _ one
@@ -48,7 +55,7 @@ each-section P s one three four five seven other n =
 
 seven-refuses : (s : List ℕ) → Refuses (readTable 7) (outcome₇alone s)
 unfolding outcome₇alone
-seven-refuses s = head-refuses (readTable 7) 7 s (read (plain (beAt s 1 4) ∷ plain (beAt s 5 1) ∷ [])) refl tt
+seven-refuses s = head-refuses (readTable 7) 7 s (read (plain (beAt s 1 4) ∷ plain (beAt s 5 1) ∷ [])) refl (λ small. tt)
 
 -- each section's refusals are its own
 own : (P : ℕ → Outcome → Type 0) → ((n : ℕ) (o : Outcome) → Refuses (readTable n) o → oneOf (numbersOf (readTable n) 0) 18 ≡ true → P n o) → ((n : ℕ) → Listed (readTable n) (refusal 4 n 0) → P n (refused 4 n 0))
@@ -57,7 +64,7 @@ own P p q section s =
     each-section P s (p 1 _ (refuses-wider (readTable 1) table₁ (outcome₁ s) refl (refuses₁ s)) refl)
     (p 3 _ (refuses-wider (readTable 3) table₃ (outcome₃ s) refl (refuses₃ s)) refl) (p 4 _ (refuses-wider (readTable 4) table₄ (outcome₄ s) refl (refuses₄ s)) refl)
     (p 5 _ (refuses-wider (readTable 5) table₅ (outcome₅ s) refl (refuses₅ s)) refl) (p 7 _ (seven-refuses s) refl)
-    (λ n e. q n (record { listed = rw (eq-eqb n n refl, e); placed = refl; within = omega arith })) section
+    (λ n e. q n (placeless (readTable n) 4 n (rw (e, eq-eqb n n refl)) refl)) section
 
 section-refuses : (section : ℕ) (s : List ℕ) → Refuses (readTable section) (sectionOutcome section s)
 section-refuses = own (λ n o. Refuses (readTable n) o) (λ n o r e. r) (λ n l. l)
@@ -65,7 +72,7 @@ section-refuses = own (λ n o. Refuses (readTable n) o) (λ n o r e. r) (λ n l.
 -- none of its numbers is 0
 positive-own : (section : ℕ) → positive (readTable section) ≡ true
 positive-own section =
-    let P : List ℕ → Type 0 = λ l. positive (record { section = section; numbers = l } ∷ []) ≡ true in
+    let P : List Row → Type 0 = λ table. positive table ≡ true in
     either P (eqb section 1) refl (either P (eqb section 3) refl (either P (eqb section 4) refl (either P (eqb section 5) refl (either P (eqb section 7) refl refl))))
 
 pub all-proper : (section : ℕ) (s : List ℕ) → Proper (sectionOutcome section s)
@@ -86,19 +93,19 @@ read-into-refuses section s row =
   where
     by-room : (n : ℕ) → oneOf (numbersOf (readTable n) 0) 18 ≡ true → (t : Bool) (row′ : List ℤ)
         → let x = cond t (done (refusal 18 0 0) row) (done noRefusal row′) .answer in (x ≡ noRefusal) ⊎ Listed (readTable n) x
-    by-room n e true row′ = inr (record { listed = e; placed = refl; within = omega arith })
+    by-room n e true row′ = inr (placeless (readTable n) 18 0 e refl)
     by-room n e false row′ = inl refl
 
     by : (n : ℕ) (o : Outcome) → Refuses (readTable n) o → oneOf (numbersOf (readTable n) 0) 18 ≡ true → (intoRow o row .answer ≡ noRefusal) ⊎ Listed (readTable n) (intoRow o row .answer)
     by n (refused number section′ place) r e = inr r
     by n (read vs) r e = by-room n e (ltb (length row) 64) _
 
-pub within : (section : ℕ) (s : List ℕ) (row : List ℤ) → intoRow (sectionOutcome section s) row .answer .place ≤ 65536
+pub within : (section : ℕ) (s : List ℕ) (row : List ℤ) → intoRow (sectionOutcome section s) row .answer .place ≤ lastPlace
 within section s row = by (read-into-refuses section s row)
   where
-    by : {x : Refusal} → (x ≡ noRefusal) ⊎ Listed (readTable section) x → x .place ≤ 65536
+    by : {x : Refusal} → (x ≡ noRefusal) ⊎ Listed (readTable section) x → x .place ≤ lastPlace
     by (inl e) = rw e (omega arith)
-    by (inr l) = l .within
+    by (inr l) = l .placed .within
 
 -- a refusal leaves the row
 pub row-stays : (o : Outcome) (row : List ℤ) → (intoRow o row .answer ≡ noRefusal → ⊥) → intoRow o row .lent ≡ row

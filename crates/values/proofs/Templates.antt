@@ -18,16 +18,19 @@ use Rattle.identification.specs.Accepted.{Follows₁}
 use Rattle.identification.specs.declared.Template.{Template as Template₁}
 use Rattle.identification.specs.declared.Template.the-variants.{None as noTemplate, Calendar, Offset, CalendarAndOffset}
 use Rattle.identification.proofs.AcceptedExactlyWhen.{accepted-follows as follows₁}
-use Rattle.grid.specs.Section3.{fields₃, gridHead, scaled as scaled₃, earth, counts, corners, common as common₃, pole, poles, listOctets, values₃, templateNumbered, outcome₃}
-use Rattle.grid.specs.declared.Template.{Template as Template₃}
-use Rattle.grid.specs.declared.Template.the-variants.{LatLon, Rotated, Stretched, StretchedAndRotated}
+use Rattle.grid.specs.Blocks.{gridHead, earthSize, earth, counts, corners, common as common₃, pole, poles}
+use Rattle.grid.specs.Templates.{fields₃, listOctets, values₃, templateNumbered}
+use Rattle.grid.specs.Section3.{outcome₃}
+use Rattle.grid.specs.declared.templates.Template.{Template as Template₃}
+use Rattle.grid.specs.declared.templates.Template.the-variants.{LatLon, Rotated, Stretched, StretchedAndRotated}
 use Rattle.grid.proofs.AcceptedExactlyWhen.{accepted-follows as follows₃, named}
 use Rattle.product.specs.Blocks.{head, parameter, process, forecast, scaled, surface, common, ensemble, cluster, probability, aerosol, interval}
-use Rattle.product.specs.Section4.{fields₄, front, ahead, behind, timeRanges, lists, templateOf, outcome₄}
-use Rattle.product.specs.declared.PartKind.{PartKind}
-use Rattle.product.specs.declared.PartKind.the-variants.{None as noPart, Ensemble, Cluster, Probability, Aerosol}
-use Rattle.product.specs.declared.Template.{Template as Template₄}
-use Rattle.product.specs.declared.Template.the-variants.{NotListed, Listed}
+use Rattle.product.specs.Templates.{fields₄, front, ahead, behind, timeRanges, lists, templateOf}
+use Rattle.product.specs.Section4.{outcome₄}
+use Rattle.product.specs.declared.templates.PartKind.{PartKind}
+use Rattle.product.specs.declared.templates.PartKind.the-variants.{None as noPart, Ensemble, Cluster, Probability, Aerosol}
+use Rattle.product.specs.declared.templates.Template.{Template as Template₄}
+use Rattle.product.specs.declared.templates.Template.the-variants.{NotListed, Listed}
 use Rattle.product.proofs.AcceptedExactlyWhen.{accepted-follows as follows₄}
 use Rattle.packing.specs.Section5.{fields₅, outcome₅}
 use Rattle.packing.proofs.AcceptedExactlyWhen.{accepted-follows₅}
@@ -93,7 +96,7 @@ word₃ Stretched = ascii "41141121QTQTQTTT4Tdd1ddTT1dd4"
 word₃ StretchedAndRotated = ascii "41141121QTQTQTTT4Tdd1ddTT1dd4dd4"
 
 spelt₃ : (t : Template₃) (n : ℕ) → spelt (fields₃ t n) (word₃ t) ≡ true
-unfolding spelt kindOf fields₃ gridHead scaled₃ earth counts corners common₃ pole poles
+unfolding spelt kindOf fields₃ gridHead earthSize earth counts corners common₃ pole poles
 spelt₃ LatLon n = refl
 spelt₃ Rotated n = refl
 spelt₃ Stretched n = refl

@@ -70,7 +70,3 @@ AcceptedWithRoom section s row = ((vs : List Value) × (sectionOutcome section s
 -- where a section is accepted, its record stands in the row
 abbrev pub PutsRecord : Outcome → List ℤ → List ℤ → Type 0
 PutsRecord o row row′ = (vs : List Value) → o ≡ read vs → row′ ≡ withCount (numbersIn vs) row
-
--- a refusal of no place; with number 0, zeros
-abbrev pub refusalNumbered : ℕ → ℕ → Refusal
-refusalNumbered number section = cond (eqb number 0) noRefusal (refusal number section 0)

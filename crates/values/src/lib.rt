@@ -11,7 +11,7 @@ ghost use Rattle.identification.specs.Section1.{outcome₁};
 ghost use Rattle.grid.specs.Section3.{outcome₃};
 ghost use Rattle.product.specs.Section4.{outcome₄};
 ghost use Rattle.values.specs.Lent.{done};
-ghost use Rattle.values.specs.Records.{sectionOutcome, intoRow, refusalNumbered, withCount, PutsRecord};
+ghost use Rattle.values.specs.Records.{sectionOutcome, intoRow, withCount, PutsRecord};
 ghost use Rattle.values.specs.Letters.{kindOf, numberOf, numberBy, numbersBy};
 use layout::I32OrMissing;
 use layout::Refusal;
@@ -29,7 +29,7 @@ pub fn read_into(section: u8, s: &[u8], values: &mut [i64]) -> Refusal
         return refused;
     }
     if values.len() < 64 {
-        return numbered(18, 0);
+        return Refusal::of(18, 0);
     }
     put_record(section, s, values);
     refused
@@ -44,25 +44,8 @@ fn refusal(section: u8, s: &[u8]) -> Refusal
         3 => grid::refusal_of(grid::read(s)),
         4 => product::refusal_of(product::read(s)),
         5 => packing::refusal_of(packing::read(s)),
-        7 => numbered(layout::head_refusal(s, 7), 7),
-        _ => numbered(4, section),
-    }
-}
-
-fn numbered(number: u8, section: u8) -> Refusal
-    ensures { λ r. ⌜ r ≡ refusalNumbered number section ⌝ }
-{
-    if number == 0 {
-        return Refusal {
-            number: 0,
-            section: 0,
-            place: 0,
-        };
-    }
-    Refusal {
-        number,
-        section,
-        place: 0,
+        7 => layout::head_refusal(s, 7),
+        _ => Refusal::of(4, section),
     }
 }
 

@@ -26,9 +26,9 @@ five-read c = answer-is told₅ (c .before .before .read .ensures) (c .five .giv
 returns-2 : tie.Need-returns-2
 unfolding told packedOutcome onward firstOf
 returns-2 c =
-    let f = c .before .before .before .before in
+    let f = c .before .before .before .before .before in
     let k = known _ _ (five-read f) in
-    simp (five-read f, ne-eqb _ _ (λ e. c .if1 .taken (k .values ∙ e)))
+    simp (c .of .ensures, five-read f, ne-eqb _ _ (λ e. c .before .if1 .taken (k .values ∙ e)))
 
 returns-3 : tie.Need-returns-3
 unfolding told packedOutcome onward firstOf told₇
@@ -58,6 +58,7 @@ read-packed-spec =
     (λ c. search needs)
     free
     returns
+    free
     returns-2
     free
     (λ c. search needs)

@@ -1,37 +1,79 @@
 use Rattle.octets.proofs.Free.{free}
-use Rattle.layout.specs.Outcomes.{firstOf}
-use Rattle.grid.specs.Section3.{asTemplate}
-use borrow.Author.Tests.{le-ltb, lt-ltb, eq-eqb, ne-eqb}
+use Prim.Native.Nat.{ℕ}
+use mathlib.Core.Path.{_≡_, refl, sym, _∙_}
+use mathlib.Core.List.{List, []}
+use mathlib.Core.Bool.{true, cond}
+use lib.Dec.{eqb}
+use denote.Ref.{now}
+use borrow.Author.Tests.{eq-eqb, ne-eqb, not-false}
+use Rattle.layout.specs.Outcomes.{read, refusedBy, firstOf, firstRefusal, templateReasons}
+use Rattle.layout.specs.declared.Refusal.{Refusal}
+use Rattle.layout.proofs.Outcomes.{Numbered, by-refusal, template-first, template-read}
+use Rattle.layout.proofs.Ranges.{test-unmet}
+use Rattle.grid.specs.Templates.{values₃}
+use Rattle.grid.specs.Agreement.{agreed, disagreement}
+use Rattle.grid.specs.Points.{pointsReasons}
+use Rattle.grid.specs.Section3.{told, asTemplate}
+use Rattle.grid.specs.declared.templates.Template.{Template}
 use Rattle.grid.proofs.read_as.Statement.{statement}
 use Rattle.grid.proofs.read_as.Tie as tie
 
+-- not refused by then, so the numbers agree
+then-agreed : (smallest bad own total : ℕ) (s : List ℕ) (x : Refusal) → x ≡ firstRefusal 3 (templateReasons smallest bad own total s) → x .number ≡ 0 → own ≡ disagreement s → agreed s ≡ true
+then-agreed smallest bad own total s x p e q =
+    let fits = template-read 3 s (read []) smallest bad own total [] (template-first 3 smallest bad own total s (read []) ∙ simp (← p, eq-eqb _ _ e)) in
+    not-false _ (test-unmet 9 _ (sym q ∙ fits .0 .own-kept))
+
+-- what a reader goes by for the points: the refusal that it is told of them, and its number
+by-points : (template : Template) (s : List ℕ) (x : Refusal) → x ≡ firstRefusal 3 (pointsReasons template s) → firstOf 3 (pointsReasons template s) (read (values₃ template s)) ≡ cond (eqb (x .number) 0) (read (values₃ template s)) (refusedBy x)
+unfolding Numbered
+by-points template s x p = rw p (by-refusal 3 (pointsReasons template s) (read (values₃ template s)) ((λ h. refl), ((λ h. refl), tt)))
+
 returns : tie.Need-returns
-unfolding asTemplate firstOf
-returns c = simp (c .refusal .ensures, ← c .before .before .base-end .ensures, lt-ltb _ _ (c .before .if1 .taken))
+unfolding told asTemplate
+returns c =
+    let d = c .before .before in
+    rw template-first
+    (rw (← d .before .total-of .ensures)
+    (simp (
+      ← d .before .before .before .before .base-end .ensures,
+      ← d .before .before .before .bad-place .ensures,
+      ← d .before .before .disagreement .ensures,
+      ← d .template-refusal .ensures,
+      ne-eqb _ _ (c .if1 .taken),
+    )))
+
+abbrev template : tie.After-points-refusal → Template
+template c = c .before .before .before .before .before .before .before .before .before .args .template
+
+abbrev section : tie.After-points-refusal → List ℕ
+section c = now (c .before .before .before .before .before .before .before .before .before .args .section)
+
+-- only the points are left to decide
+decided : (c : tie.After-points-refusal) → asTemplate (template c) (section c) ≡ cond (eqb (c .points-refusal .result .number) 0) (read (values₃ (template c) (section c))) (refusedBy (c .points-refusal .result))
+unfolding asTemplate
+decided c =
+    let d = c .before .before .before in
+    let own = d .before .before .disagreement .ensures in
+    let agree = then-agreed _ _ _ _ (section c) _ (d .template-refusal .ensures) (c .before .if1 .left) own in
+    rw template-first
+    (rw (← d .before .total-of .ensures)
+    (simp (
+      ← d .before .before .before .before .base-end .ensures,
+      ← d .before .before .before .bad-place .ensures,
+      ← own,
+      ← d .template-refusal .ensures,
+      eq-eqb _ _ (c .before .if1 .left),
+    )
+    (by-points (template c) (section c) (c .points-refusal .result) (c .points-refusal .ensures agree))))
 
 returns-2 : tie.Need-returns-2
-unfolding asTemplate firstOf
-returns-2 c =
-    let d = c .before in
-    simp (
-      c .refusal2 .ensures,
-      ← d .before .before .before .base-end .ensures,
-      le-ltb _ _ (d .before .before .if1 .left),
-      ← d .before .bad-place .ensures,
-      ne-eqb _ _ (d .if2 .taken),
-    )
+unfolding told
+returns-2 c = simp (decided (c .before .before), ne-eqb _ _ (c .if2 .taken))
 
 returns-3 : tie.Need-returns-3
-unfolding asTemplate firstOf
-returns-3 c =
-    let d = c .before in
-    simp (
-      c .read-fitting .ensures,
-      ← d .before .before .before .base-end .ensures,
-      le-ltb _ _ (d .before .before .if1 .left),
-      ← d .before .bad-place .ensures,
-      eq-eqb _ _ (d .if2 .left),
-    )
+unfolding told
+returns-3 c = simp (c .of-section .ensures, decided (c .before .before .before), eq-eqb _ _ (c .before .if2 .left))
 
 pub read-as-spec : {M : Type 1} → statement M
-read-as-spec = tie.close (tie.spec free free returns free free returns-2 free returns-3)
+read-as-spec = tie.close (tie.spec free free free free free returns free returns-2 free returns-3)

@@ -1,51 +1,23 @@
 use Rattle.octets.proofs.Free.{free}
-use Rattle.layout.specs.Outcomes.{firstOf}
+use Rattle.layout.proofs.Outcomes.{template-first}
 use Rattle.identification.specs.Section1.{told, asTemplate}
-use borrow.Author.Tests.{le-ltb, lt-ltb, eq-eqb, ne-eqb}
+use borrow.Author.Tests.{eq-eqb, ne-eqb}
 use Rattle.identification.proofs.read_as.Statement.{statement}
 use Rattle.identification.proofs.read_as.Tie as tie
 
 returns : tie.Need-returns
-unfolding asTemplate firstOf
-returns c = simp (c .refusal .ensures, ← c .before .before .total-of .ensures, lt-ltb _ _ (c .before .if1 .taken))
+unfolding told asTemplate
+returns c =
+    let d = c .before .before in
+    rw template-first
+    (simp (← d .before .before .total-of .ensures, ← d .before .bad-place .ensures, ← d .template-refusal .ensures, ne-eqb _ _ (c .if1 .taken)))
 
 returns-2 : tie.Need-returns-2
-unfolding asTemplate firstOf
+unfolding told asTemplate
 returns-2 c =
-    let d = c .before in
-    simp (
-      c .refusal2 .ensures,
-      ← d .before .before .before .total-of .ensures,
-      le-ltb _ _ (d .before .before .if1 .left),
-      ← d .before .bad-place .ensures,
-      ne-eqb _ _ (d .if2 .taken),
-    )
-
-returns-3 : tie.Need-returns-3
-unfolding asTemplate firstOf
-returns-3 c =
-    let d = c .before in
-    simp (
-      c .refusal3 .ensures,
-      ← d .before .before .before .before .total-of .ensures,
-      le-ltb _ _ (d .before .before .before .if1 .left),
-      ← d .before .before .bad-place .ensures,
-      eq-eqb _ _ (d .before .if2 .left),
-      ne-eqb _ _ (d .if3 .taken),
-    )
-
-returns-4 : tie.Need-returns-4
-unfolding told asTemplate firstOf
-returns-4 c =
-    let d = c .before in
-    simp (
-      c .record-of .ensures,
-      ← d .before .before .before .before .total-of .ensures,
-      le-ltb _ _ (d .before .before .before .if1 .left),
-      ← d .before .before .bad-place .ensures,
-      eq-eqb _ _ (d .before .if2 .left),
-      eq-eqb _ _ (d .if3 .left),
-    )
+    let d = c .before .before .before in
+    rw template-first
+    (simp (c .record-of .ensures, ← d .before .before .total-of .ensures, ← d .before .bad-place .ensures, ← d .template-refusal .ensures, eq-eqb _ _ (c .before .if1 .left)))
 
 pub read-as-spec : {M : Type 1} → statement M
-read-as-spec = tie.close (tie.spec free free returns free free returns-2 free returns-3 free returns-4)
+read-as-spec = tie.close (tie.spec free free free returns free returns-2)

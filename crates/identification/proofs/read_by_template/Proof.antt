@@ -1,5 +1,5 @@
 use Rattle.octets.proofs.Free.{free}
-use Rattle.identification.specs.Section1.{byTemplate, byNumber}
+use Rattle.identification.specs.Section1.{byTemplate, byNumber, told}
 use Rattle.layout.specs.Outcomes.{refused}
 use Prim.Native.Nat.{ℕ, zero, suc}
 use mathlib.Core.List.{List}
@@ -38,12 +38,12 @@ returns-4 c =
     simp (c .read-as4 .ensures, ne-eqb _ _ (d .before .before .if1 .left), ← d .before .u16-at .ensures, d .match .keys3)
 
 returns-5 : tie.Need-returns-5
-unfolding byTemplate byNumber
+unfolding told byTemplate byNumber
 returns-5 c =
     let d = c .before in
     let other = d .match .rest in
     simp (
-      c .refusal .ensures,
+      c .of .ensures,
       ne-eqb _ _ (d .before .before .if1 .left),
       ← d .before .u16-at .ensures,
       unlisted _ (other .0 .0 .1) (other .0 .1) (other .1),

@@ -1,9 +1,10 @@
+use Rattle.octets.proofs.Free.{free}
 use borrow.Author.Needs.{needs}
 use Rattle.packing.proofs.data_refusal_of.Statement.{statement}
 use Rattle.packing.proofs.data_refusal_of.Tie as tie
 
 returns-2 : tie.Need-returns-2
-returns-2 c = rw (c .enum-told .given .1)
+returns-2 c = simp (c .none .ensures, c .before .enum-told .given .1)
 
 pub data-refusal-of-spec : {M : Type 1} → statement M
-data-refusal-of-spec = tie.close (tie.spec (λ c. search needs) (λ c. search needs) (λ c. search needs) returns-2)
+data-refusal-of-spec = tie.close (tie.spec (λ c. search needs) (λ c. search needs) free (λ c. search needs) returns-2)

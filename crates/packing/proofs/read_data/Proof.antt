@@ -12,14 +12,12 @@ use Rattle.packing.proofs.read_data.Statement.{statement}
 use Rattle.packing.proofs.read_data.Tie as tie
 
 returns : tie.Need-returns
-unfolding outcome₇
-returns c =
-    let d = c .before in
-    rw head-first (simp (c .data-refusal .ensures, ← d .before .head-refusal .ensures, ne-eqb _ _ (d .if1 .taken)))
+unfolding outcome₇ told₇
+returns c = rw head-first (simp (← c .before .before .head-refusal .ensures, ne-eqb _ _ (c .if1 .taken)))
 
-product : (c : tie.Else1) → c .before .before .before .args .values * c .before .before .before .args .bits < 2 ^ 40
+product : (c : tie.Else1) → c .before .before .before .before .args .values * c .before .before .before .before .args .bits < 2 ^ 40
 product c =
-    let a = c .before .before .before in
+    let a = c .before .before .before .before in
     product-below 32 8 (a .args .values) (a .args .bits) (a .fits .values .fits) (a .fits .bits .fits)
 
 mul-packed : tie.Need-mul-packed
@@ -32,13 +30,13 @@ add-if2 : tie.Need-add-if2
 add-if2 c = omega (arith, product c)
 
 returns-2 : tie.Need-returns-2
-unfolding outcome₇ firstOf
+unfolding outcome₇ told₇ firstOf
 returns-2 c =
     let d = c .before in
     rw head-first
     (simp (
-      c .data-refusal2 .ensures,
-      ← d .before .before .head-refusal .ensures,
+      c .of .ensures,
+      ← d .before .before .before .head-refusal .ensures,
       eq-eqb _ _ (d .before .if1 .left),
       ne-eqb _ _ (d .if2 .taken),
     ))
@@ -49,7 +47,7 @@ returns-3 c =
     let d = c .before .before in
     rw head-first
     (simp (
-      ← d .before .before .head-refusal .ensures,
+      ← d .before .before .before .head-refusal .ensures,
       eq-eqb _ _ (d .before .if1 .left),
       eq-eqb _ _ (d .if2 .left),
     )
@@ -58,4 +56,4 @@ returns-3 c =
 pub read-data-spec : {M : Type 1} → statement M
 read-data-spec =
     tie.close
-    (tie.spec free free returns mul-packed add-packed add-if2 free returns-2 free free returns-3)
+    (tie.spec free returns mul-packed add-packed add-if2 free returns-2 free free returns-3)

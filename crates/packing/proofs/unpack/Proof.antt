@@ -65,12 +65,13 @@ seven-read c =
 returns-3 : tie.Need-returns-3
 unfolding SevenRead
 returns-3 c =
-    let t = c .before .before in
+    let t = c .before .before .before in
     let a = start t .args in
     let seven = seven-read t in
     let k = five-known (t .before .before) in
-    row-refused (now (a .section5)) (now (a .section7)) (now (a .row)) _ (five-read (t .before .before)) (seven .0) (seven .1)
-    (λ e. c .if1 .taken (e ∙ sym (k .values)))
+    rw (c .of .ensures)
+    (row-refused (now (a .section5)) (now (a .section7)) (now (a .row)) _ (five-read (t .before .before)) (seven .0) (seven .1)
+    (λ e. c .before .if1 .taken (e ∙ sym (k .values))))
 
 -- section 7 has its five octets
 five-there : (c : tie.After-enum-told2) → 5 ≤ length (now (start c .args .section7))
@@ -119,6 +120,7 @@ unpack-spec =
     free
     returns-2
     (λ c. search needs)
+    free
     returns-3
     sub-unpack-bits
     part-unpack-bits-start

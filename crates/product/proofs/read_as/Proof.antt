@@ -1,37 +1,46 @@
 use Rattle.octets.proofs.Free.{free}
-use Rattle.layout.specs.Outcomes.{firstOf}
-use Rattle.product.specs.Section4.{asTemplate}
-use borrow.Author.Tests.{le-ltb, lt-ltb, eq-eqb, ne-eqb}
+use Rattle.layout.proofs.Outcomes.{template-first}
+use Rattle.product.specs.Section4.{told, asTemplate}
+use borrow.Author.Tests.{eq-eqb, ne-eqb}
 use Rattle.product.proofs.read_as.Statement.{statement}
 use Rattle.product.proofs.read_as.Tie as tie
 
 returns : tie.Need-returns
-unfolding asTemplate firstOf
-returns c = simp (c .refusal .ensures, ← c .before .before .total-of .ensures, lt-ltb _ _ (c .before .if1 .taken))
+unfolding told asTemplate
+returns c =
+    let t = c .before .before in
+    let r = t .before .before .before .before in
+    rw template-first
+    (rw (← r .before .before .bad-place .ensures)
+    (simp (
+      ← r .before .before .before .total-of .ensures,
+      ← r .before .range-count .ensures,
+      ← r .lack-of-ranges .ensures,
+      ← t .before .before .before .member-count .ensures,
+      ← t .before .before .u16-at .ensures,
+      ← t .before .total-of2 .ensures,
+      ← t .template-refusal .ensures,
+      ne-eqb _ _ (c .if1 .taken),
+    )))
 
 returns-2 : tie.Need-returns-2
-unfolding asTemplate firstOf
+unfolding told asTemplate
 returns-2 c =
-    let d = c .before in
-    simp (
-      c .refusal2 .ensures,
-      ← d .before .before .before .total-of .ensures,
-      le-ltb _ _ (d .before .before .if1 .left),
-      ← d .before .bad-place .ensures,
-      ne-eqb _ _ (d .if2 .taken),
-    )
-
-returns-3 : tie.Need-returns-3
-unfolding asTemplate firstOf
-returns-3 c =
-    let d = c .before in
-    simp (
-      c .read-counted .ensures,
-      ← d .before .before .before .total-of .ensures,
-      le-ltb _ _ (d .before .before .if1 .left),
-      ← d .before .bad-place .ensures,
-      eq-eqb _ _ (d .if2 .left),
-    )
+    let t = c .before .before .before in
+    let r = t .before .before .before .before in
+    rw template-first
+    (rw (← r .before .before .bad-place .ensures)
+    (simp (
+      c .record-of .ensures,
+      ← r .before .before .before .total-of .ensures,
+      ← r .before .range-count .ensures,
+      ← r .lack-of-ranges .ensures,
+      ← t .before .before .before .member-count .ensures,
+      ← t .before .before .u16-at .ensures,
+      ← t .before .total-of2 .ensures,
+      ← t .template-refusal .ensures,
+      eq-eqb _ _ (c .before .if1 .left),
+    )))
 
 pub read-as-spec : {M : Type 1} → statement M
-read-as-spec = tie.close (tie.spec free free returns free free returns-2 free returns-3)
+read-as-spec = tie.close (tie.spec free free free free free free free free returns free returns-2)

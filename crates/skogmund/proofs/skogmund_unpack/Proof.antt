@@ -5,7 +5,7 @@ use mathlib.Core.Path.{sym, ap, ap₂, _∙_}
 use Rattle.packing.specs.Unpacking.{toldUnpacked}
 use Rattle.values.specs.Lent.{done}
 use Rattle.skogmund.specs.Entries.{coded, rowUnpacked}
-use Rattle.refusals.proofs.RefusalNumbers.{unpacking-refuses}
+use Rattle.packing.proofs.RefusalNumbers.{unpacking-refuses}
 use Rattle.skogmund.proofs.skogmund_unpack.Statement.{statement}
 use Rattle.skogmund.proofs.skogmund_unpack.Tie as tie
 
@@ -18,7 +18,7 @@ returns c =
 code-requires : tie.Need-code-requires
 code-requires c κs =
     let u = c .before .before .before .before .before .unpack .ensures in
-    unpacking-refuses _ _ _ (c .before .answer .given .0 .0) (sym (ap toldUnpacked (c .before .answer .given .1)) ∙ u .answers) .within
+    unpacking-refuses _ _ _ (c .before .answer .given .0 .0) (sym (ap toldUnpacked (c .before .answer .given .1)) ∙ u .answers) .placed .within
 
 returns-2 : tie.Need-returns-2
 unfolding toldUnpacked rowUnpacked

@@ -6,8 +6,9 @@ use mathlib.Core.Path.{_≡_, ap, sym, _∙_}
 use mathlib.Core.List.{List}
 use lib.IntN.{ℤ}
 use Rattle.octets.specs.Octets.{beAt}
-use Rattle.grid.specs.Section3.{templateNumbered, outcome₃}
-use Rattle.grid.specs.declared.Template.the-variants.{StretchedAndRotated}
+use Rattle.grid.specs.Templates.{templateNumbered}
+use Rattle.grid.specs.Section3.{outcome₃}
+use Rattle.grid.specs.declared.templates.Template.the-variants.{StretchedAndRotated}
 use Rattle.values.specs.Letters.{numbersBy}
 use Rattle.values.specs.Records.{withCount, PutsRecord}
 use Rattle.values.proofs.Templates.{word₃, row₃, last₃}

@@ -8,9 +8,10 @@ use mathlib.Core.List.{List}
 use Prim.Native.Nat.{ℕ}
 use lib.Dec.{eqb}
 use lib.IntN.{ℤ}
-use Rattle.product.specs.Section4.{templateOf, outcome₄}
-use Rattle.product.specs.declared.Template.the-variants.{NotListed, Listed}
-use Rattle.product.specs.declared.PartKind.the-variants.{Aerosol}
+use Rattle.product.specs.Templates.{templateOf}
+use Rattle.product.specs.Section4.{outcome₄}
+use Rattle.product.specs.declared.templates.Template.the-variants.{NotListed, Listed}
+use Rattle.product.specs.declared.templates.PartKind.the-variants.{Aerosol}
 use Rattle.octets.specs.Octets.{beAt}
 use Rattle.values.specs.Letters.{numbersBy}
 use Rattle.values.specs.Records.{withCount, PutsRecord}

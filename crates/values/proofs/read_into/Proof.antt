@@ -39,7 +39,7 @@ returns c = refusing _ _ _ (c .before .before .refusal .ensures) (c .if1 .taken)
 returns-2 : tie.Need-returns-2
 returns-2 c =
     let v = accepted-by (c .before .before) in
-    no-room _ _ (v .0) _ (v .1) (c .before .if2 .taken) (c .numbered .ensures)
+    no-room _ _ (v .0) _ (v .1) (c .before .if2 .taken) (c .of .ensures)
 
 returns-3 : tie.Need-returns-3
 returns-3 c =

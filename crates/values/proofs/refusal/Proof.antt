@@ -4,14 +4,10 @@ use borrow.Author.Needs.{needs}
 use borrow.Author.Tests.{ne-eqb}
 use Prim.Native.Nat.{ℕ}
 use mathlib.Core.Path.{_≡_, refl, ap, sym, _∙_}
-use mathlib.Core.Bool.{Bool, true, false, cond}
-use mathlib.Core.List.{List, [], _∷_}
-use lib.Dec.{eqb}
-use Rattle.octets.specs.Octets.{beAt}
-use Rattle.layout.specs.Fields.{plain}
-use Rattle.layout.specs.Outcomes.{refused, read, firstNumber, headReasons, refusal, noRefusal, refusalOf}
+use mathlib.Core.List.{List}
+use Rattle.layout.specs.Outcomes.{firstRefusal, headReasons, refusalOf}
 use Rattle.layout.specs.declared.Refusal.{Refusal}
-use Rattle.layout.proofs.Outcomes.{head-first}
+use Rattle.layout.proofs.Outcomes.{refusal-first}
 use Rattle.identification.specs.Section1.{told as told₁, refusalIn as refusalIn₁}
 use Rattle.identification.specs.declared.Answer.{Answer as Answer₁}
 use Rattle.identification.specs.declared.Answer.the-variants.{Read as Read₁, Refused as Refused₁}
@@ -24,7 +20,7 @@ use Rattle.product.specs.declared.Answer.the-variants.{Read as Read₄, Refused
 use Rattle.packing.specs.Section5.{told₅, refusalIn₅}
 use Rattle.packing.specs.declared.Answer.{Answer as Answer₅}
 use Rattle.packing.specs.declared.Answer.the-variants.{Read as Read₅, Refused as Refused₅}
-use Rattle.values.specs.Records.{refusalNumbered, outcome₇alone, sectionOutcome}
+use Rattle.values.specs.Records.{outcome₇alone, sectionOutcome}
 use Rattle.values.proofs.refusal.Statement.{statement}
 use Rattle.values.proofs.refusal.Tie as tie
 
@@ -49,13 +45,9 @@ unfolding told₅
 of₅ (Read₅ x) = refl
 of₅ (Refused₅ x) = refl
 
-of₇ : (s : List ℕ) (n : ℕ) {r : Refusal} → n ≡ firstNumber (headReasons 7 s) → r ≡ refusalNumbered n 7 → r ≡ refusalOf (outcome₇alone s)
+of₇ : (s : List ℕ) → firstRefusal 7 (headReasons 7 s) ≡ refusalOf (outcome₇alone s)
 unfolding outcome₇alone
-of₇ s n e f = f ∙ ap (λ (k : ℕ). refusalNumbered k 7) e ∙ sym (ap refusalOf (head-first 7 s _) ∙ by (eqb (firstNumber (headReasons 7 s)) 0))
-  where
-    by : (t : Bool) → refusalOf (cond t (read (plain (beAt s 1 4) ∷ plain (beAt s 5 1) ∷ [])) (refused (firstNumber (headReasons 7 s)) 7 0)) ≡ cond t noRefusal (refusal (firstNumber (headReasons 7 s)) 7 0)
-    by true = refl
-    by false = refl
+of₇ s = refusal-first 7 (headReasons 7 s) _
 
 -- an arm answers for its section
 arm : (s : List ℕ) {section key : ℕ} {r : Refusal} → section ≡ key → r ≡ refusalOf (sectionOutcome key s) → r ≡ refusalOf (sectionOutcome section s)
@@ -79,7 +71,7 @@ returns-4 c = arm _ (c .before .before .match .keys4) (c .refusal-of4 .ensures �
 
 returns-5 : tie.Need-returns-5
 unfolding sectionOutcome
-returns-5 c = arm _ (c .before .before .match .keys5) (of₇ _ _ (c .before .head-refusal .ensures) (c .numbered .ensures))
+returns-5 c = arm _ (c .before .match .keys5) (c .head-refusal .ensures ∙ of₇ _)
 
 returns-6 : tie.Need-returns-6
 unfolding sectionOutcome
@@ -92,13 +84,12 @@ returns-6 c =
       ne-eqb _ _ (other .0 .1),
       ne-eqb _ _ (other .1),
     )
-    (c .numbered2 .ensures)
+    (c .of .ensures)
 
 pub refusal-spec : {M : Type 1} → statement M
 refusal-spec =
     tie.close
     (tie.spec
-    (λ c κs. search needs)
     (λ c κs. search needs)
     (λ c κs. search needs)
     (λ c κs. search needs)

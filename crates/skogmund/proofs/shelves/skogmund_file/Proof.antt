@@ -15,7 +15,7 @@ use Rattle.filing.specs.Filing.{filedOf}
 use Rattle.queue.specs.Records.{issueFrom}
 use Rattle.skogmund.specs.Entries.{doneBoth}
 use Rattle.skogmund.specs.Shelves.{fieldKept, filedField}
-use Rattle.refusals.proofs.RefusalNumbers.{filing-refuses}
+use Rattle.filing.proofs.RefusalNumbers.{filing-refuses}
 use Rattle.skogmund.proofs.shelves.skogmund_file.Statement.{statement}
 use Rattle.skogmund.proofs.shelves.skogmund_file.Tie as tie
 
@@ -50,7 +50,7 @@ returns c =
 code-requires : tie.Need-code-requires
 code-requires c κs =
     let f = c .before .before .before .before in
-    filing-refuses _ _ _ _ _ _ _ _ _ (sym (ap (λ (x : Filed). x .answer) (filed-is f)) ∙ c .before .answer .given .1) .within
+    filing-refuses _ _ _ _ _ _ _ _ _ (sym (ap (λ (x : Filed). x .answer) (filed-is f)) ∙ c .before .answer .given .1) .placed .within
 
 returns-2 : tie.Need-returns-2
 unfolding filedField fieldKept

@@ -11,7 +11,7 @@ use Rattle.queue.specs.declared.QueueFiled.{QueueFiled}
 use Rattle.queue.specs.Queues.{queueFiled}
 use Rattle.skogmund.specs.Entries.{doneBoth}
 use Rattle.skogmund.specs.Shelves.{queueKept, filedQueue}
-use Rattle.refusals.proofs.RefusalNumbers.{queue-refuses}
+use Rattle.queue.proofs.RefusalNumbers.{queue-refuses}
 use Rattle.skogmund.proofs.shelves.skogmund_file_queue.Statement.{statement}
 use Rattle.skogmund.proofs.shelves.skogmund_file_queue.Tie as tie
 
@@ -25,7 +25,7 @@ filed-is f = f .file .ensures ∙ ap (λ (s : Shelf). queueFiled s (now (start-o
 code-requires : tie.Need-code-requires
 code-requires c κs =
     let f = c .before .before .before .before in
-    queue-refuses _ _ _ (sym (ap (λ (x : QueueFiled). x .answer) (filed-is f)) ∙ c .before .answer2 .given .1) .within
+    queue-refuses _ _ _ (sym (ap (λ (x : QueueFiled). x .answer) (filed-is f)) ∙ c .before .answer2 .given .1) .placed .within
 
 returns : tie.Need-returns
 unfolding filedQueue queueKept

@@ -1,0 +1,55 @@
+-- A refusal of section 3 has a number and a place as document 01 has them.
+-- Assumes nothing.
+use Prim.Native.Nat.{ℕ, _≤_}
+use mathlib.Core.Path.{_≡_, refl}
+use mathlib.Core.Bool.{true, false, not}
+use mathlib.Core.List.{List, _∷_}
+use lib.ListN.{length}
+use lib.Dec.{ltb}
+use Rattle.octets.specs.Octets.{beAt}
+use Rattle.layout.specs.Fields.{placed, after, badPlace}
+use Rattle.layout.specs.Outcomes.{read, firstOf}
+use Rattle.layout.specs.Refusals.{oneOf, hasPlace, Listed}
+use Rattle.layout.specs.declared.Refusal.{Refusal}
+use Rattle.layout.proofs.Outcomes.{either}
+use Rattle.layout.proofs.Refusals.{Refuses, refusal-listed, placeless, AllListed, first-refuses, reason-refuses, opening-refuses, template-refuses, below, bad-below}
+use Rattle.grid.specs.Blocks.{gridHead, earthSize, earth, counts, corners, common, pole, poles}
+use Rattle.grid.specs.Templates.{templateNamed, baseEnd, fields₃, total, values₃}
+use Rattle.grid.specs.Agreement.{agreed, disagreement}
+use Rattle.grid.specs.Points.{pointsReasons}
+use Rattle.grid.specs.Section3.{asTemplate, outcome₃, told}
+use Rattle.grid.specs.Refused.{numbers₃, table₃}
+use Rattle.grid.specs.declared.templates.Template.{Template}
+use Rattle.grid.specs.declared.templates.Template.the-variants.{LatLon, Rotated, Stretched, StretchedAndRotated}
+use Rattle.grid.specs.declared.Answer.the-variants.{Refused}
+
+-- the lowest bad field starts within the base
+bad₃ : (template : Template) (n : ℕ) (s : List ℕ) → badPlace (after 0 (fields₃ template n)) s ≤ baseEnd template
+unfolding below placed fields₃ gridHead earthSize earth counts corners common pole poles
+bad₃ LatLon n s = bad-below _ _ s refl
+bad₃ Rotated n s = bad-below _ _ s refl
+bad₃ Stretched n s = bad-below _ _ s refl
+bad₃ StretchedAndRotated n s = bad-below _ _ s refl
+
+by-points : (template : Template) (s : List ℕ) → Refuses table₃ (firstOf 3 (pointsReasons template s) (read (values₃ template s)))
+unfolding AllListed
+by-points template s =
+    first-refuses table₃ 3 (pointsReasons template s) (read (values₃ template s))
+    ((λ h. placeless table₃ 12 3 refl refl), (λ h. ((λ h. placeless table₃ 13 3 refl refl), (λ h. tt)))) (λ none. tt)
+
+as-template : (template : Template) (s : List ℕ) → length s ≤ 65536 → Refuses table₃ (asTemplate template s)
+unfolding asTemplate
+as-template template s small =
+    let listed = either (λ (n : ℕ). oneOf (0 ∷ numbers₃) n ≡ true) (not (agreed s)) refl refl in
+    let no-place = either (λ (n : ℕ). hasPlace n ≡ false) (not (agreed s)) refl refl in
+    template-refuses table₃ 3 (baseEnd template) _ (disagreement s) (total template s) s _ refl listed no-place (bad₃ template _ s) small (by-points template s)
+
+pub refuses₃ : (s : List ℕ) → Refuses table₃ (outcome₃ s)
+unfolding outcome₃
+refuses₃ s =
+    opening-refuses table₃ 3 14 s _ refl
+    (λ small. reason-refuses table₃ 3 6 (ltb 3 (beAt s 13 2)) (asTemplate (templateNamed s) s) refl refl (as-template (templateNamed s) s small))
+
+pub grid-refuses : (s : List ℕ) (x : Refusal) → told (Refused x) ≡ outcome₃ s → Listed table₃ x
+unfolding told
+grid-refuses s x e = refusal-listed table₃ (outcome₃ s) x (refuses₃ s) e

@@ -1,0 +1,11 @@
+-- With which of document 01's numbers a section 3 is refused.
+-- Assumes nothing.
+use Prim.Native.Nat.{ℕ}
+use mathlib.Core.List.{List, [], _∷_}
+use Rattle.layout.specs.Refusals.{Row, row}
+
+abbrev pub numbers₃ : List ℕ
+numbers₃ = 1 ∷ 2 ∷ 3 ∷ 4 ∷ 5 ∷ 6 ∷ 7 ∷ 8 ∷ 10 ∷ 11 ∷ 12 ∷ 13 ∷ []
+
+abbrev pub table₃ : List Row
+table₃ = row 3 numbers₃ ∷ []

@@ -1,0 +1,88 @@
+// 12 and 13: the points are Ni x Nj, or the sum of the list.
+ghost use mathlib.Core.Path.{_≡_};
+ghost use mathlib.Core.Bool.{true};
+ghost use Rattle.octets.specs.Octets.{beAt};
+ghost use Rattle.layout.specs.Outcomes.{firstRefusal};
+ghost use Rattle.grid.specs.Blocks.{hasList};
+ghost use Rattle.grid.specs.Agreement.{agreed};
+ghost use Rattle.grid.specs.Points.{productAbove, sumOf, pointsOf, pointsReasons};
+use crate::templates::Template;
+use crate::templates::base_end;
+use crate::templates::list_count;
+use layout::Refusal;
+
+// The first of them that is met, of numbers that agree; what it answers of others is of no use: they are refused before.
+pub(crate) fn points_refusal(section: &[u8], template: Template) -> Refusal
+    ensures { λ r. ⌜ (agreed (now (section .entry)) ≡ true → r ≡ firstRefusal 3 (pointsReasons template (now (section .entry)))) ⌝ }
+{
+    if product_above(section) {
+        return Refusal::of(12, 3);
+    }
+    if octets::u32_at(section, 7) as u64 != points_of(section, template) {
+        return Refusal::of(13, 3);
+    }
+    Refusal::none()
+}
+
+// Whether there is no list and Ni x Nj is above 64 bits: then Nj is more than the largest number divided by Ni.
+fn product_above(section: &[u8]) -> bool
+    ensures { λ r. ⌜ r ≡ productAbove (now (section .entry)) ⌝ }
+{
+    if octets::u8_at(section, 11) != 0 {
+        return false;
+    }
+    let ni = octets::u32_at(section, 31);
+    let nj = octets::u32_at(section, 35);
+    if ni == 0 {
+        return false;
+    }
+    let most = 0xffff_ffff_ffff_ffff / (ni as u64);
+    most < (nj as u64)
+}
+
+// Ni x Nj, or the sum of the list.
+fn points_of(section: &[u8], template: Template) -> u64
+    ensures { λ r. ⌜ (agreed (now (section .entry)) ≡ true → r ≡ pointsOf template (now (section .entry))) ⌝ }
+{
+    let width = octets::u8_at(section, 11);
+    if width == 0 {
+        let ni = octets::u32_at(section, 31);
+        let nj = octets::u32_at(section, 35);
+        return (ni as u64) * (nj as u64);
+    }
+    list_sum(
+        section,
+        base_end(template) as u32,
+        width,
+        list_count(section),
+    )
+}
+
+// The sum of `count` numbers of `width` octets each behind octet `end`, in one pass over the list: below 2^64, since count
+// and number are below 2^32.
+fn list_sum(section: &[u8], end: u32, width: u8, count: u32) -> u64
+    ensures { λ r. ⌜ (hasList width ≡ true → r ≡ sumOf end width (now (section .entry)) count) ⌝ }
+{
+    let step = width as usize;
+    let mut at = end as usize + 1;
+    let mut sum: u64 = 0;
+    let mut i: u32 = 0;
+    while i < count {
+        sum += listed_at(section, at, width) as u64;
+        at += step;
+        i += 1;
+    }
+    sum
+}
+
+// The number of a list from octet `at` on.
+fn listed_at(section: &[u8], at: usize, width: u8) -> u32
+    ensures { λ r. ⌜ (hasList width ≡ true → r ≡ beAt (now (section .entry)) at width) ⌝ }
+{
+    match width {
+        1 => octets::u8_at(section, at) as u32,
+        2 => octets::u16_at(section, at) as u32,
+        4 => octets::u32_at(section, at),
+        _ => 0,
+    }
+}

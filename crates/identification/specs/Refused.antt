@@ -1,0 +1,11 @@
+-- With which of document 01's numbers a section 1 is refused.
+-- Assumes nothing.
+use Prim.Native.Nat.{ℕ}
+use mathlib.Core.List.{List, [], _∷_}
+use Rattle.layout.specs.Refusals.{Row, row}
+
+abbrev pub numbers₁ : List ℕ
+numbers₁ = 1 ∷ 2 ∷ 3 ∷ 4 ∷ 5 ∷ 6 ∷ 7 ∷ 8 ∷ 11 ∷ []
+
+abbrev pub table₁ : List Row
+table₁ = row 1 numbers₁ ∷ []

@@ -1,0 +1,47 @@
+-- What a table of refusals is, and what it means that a refusal is one of them.
+-- Assumes nothing.
+use Prim.Native.Nat.{ℕ, _≤_}
+use mathlib.Core.Path.{_≡_}
+use mathlib.Core.List.{List, [], _∷_}
+use mathlib.Core.Bool.{Bool, true, false, not, cond}
+use lib.Dec.{eqb}
+use Rattle.layout.specs.declared.Refusal.{Refusal}
+
+-- ---- the place
+
+-- the numbers with which a refusal has a place
+abbrev pub hasPlace : ℕ → Bool
+hasPlace number = eqb number 8
+
+-- a section has no octet past this one
+abbrev pub lastPlace : ℕ
+lastPlace = 65536
+
+-- the place is 0, except with those numbers
+pub record PlaceKept (number place : ℕ) : Type 0 where
+  pub given : not (eqb place 0) ≡ hasPlace number
+  pub within : place ≤ lastPlace
+
+-- ---- the number, by the section
+
+-- a section, or 0 for what is no section, and the numbers with which it may be refused; a table has each section once
+pub record Row : Type 0 where
+  pub section : ℕ
+  pub numbers : List ℕ
+
+abbrev pub row : ℕ → List ℕ → Row
+row section numbers = record { section = section; numbers = numbers }
+
+abbrev pub oneOf : List ℕ → ℕ → Bool
+oneOf [] n = false
+oneOf (m ∷ ms) n = cond (eqb n m) true (oneOf ms n)
+
+-- the numbers of a section in a table
+abbrev pub numbersOf : List Row → ℕ → List ℕ
+numbersOf [] section = []
+numbersOf (r ∷ rs) section = cond (eqb section (r .section)) (r .numbers) (numbersOf rs section)
+
+-- a refusal that document 01 has: the table lists its number for its section, and its place is as the number's is
+pub record Listed (table : List Row) (x : Refusal) : Type 0 where
+  pub listed : oneOf (numbersOf table (x .section)) (x .number) ≡ true
+  pub placed : PlaceKept (x .number) (x .place)

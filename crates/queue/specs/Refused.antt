@@ -1,0 +1,12 @@
+-- With which of document 01's numbers a record of a queue is refused, and a whole queue.
+-- Assumes nothing.
+use mathlib.Core.List.{List, [], _∷_}
+use Rattle.layout.specs.Refusals.{Row, row}
+use Rattle.identification.specs.Refused.{numbers₁}
+use Rattle.field.specs.Refused.{laterRows}
+
+abbrev pub recordTable : List Row
+recordTable = row 0 (16 ∷ 20 ∷ []) ∷ row 1 (17 ∷ numbers₁) ∷ laterRows
+
+abbrev pub queueTable : List Row
+queueTable = row 0 (2 ∷ 19 ∷ []) ∷ []
