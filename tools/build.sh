@@ -50,7 +50,8 @@ $(sha256sum "$file" 2> /dev/null)" ] && return
     began=$(date +%s)
     # Standard input stays the caller's.
     if ! "$@" < /dev/null > "$log" 2>&1 || [ ! -f "$file" ]; then
-        tail -n 20 "$log" | cut -c 1-1500 >&2
+        # Lines of what is proved, or only read, are no reason.
+        grep -v -e '^library ' -e '^logic /' -e ': proved$' -e ' proved (' "$log" | tail -n 20 | cut -c 1-300 >&2
         say "$file could not be built; $log has all that was said"
         return 1
     fi
