@@ -6,7 +6,7 @@ int main(void) {
     int64_t v[SKOGMUND_VALUES];
     uint64_t refusal = skogmund_read(5, five, sizeof five, v, SKOGMUND_VALUES);
     if (refusal != 0)
-        printf("refused %d\n", (int)(refusal >> 40));
+        printf("refused %u\n", SKOGMUND_NUMBER(refusal));
     else
         printf("%d values of %d bits, E %d\n", (int)v[3], (int)v[8], (int)v[6]);
     return refusal != 0;

@@ -4,7 +4,8 @@
 #include <stdio.h>
 
 static int refused(const char *what, uint64_t refusal) {
-    fprintf(stderr, "the %s is refused: %" PRIu64 "\n", what, refusal >> 40);
+    fprintf(stderr, "the %s is refused: number %u, section %u, place %u\n", what, SKOGMUND_NUMBER(refusal), SKOGMUND_SECTION(refusal),
+            SKOGMUND_PLACE(refusal));
     return 1;
 }
 

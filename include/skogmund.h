@@ -1,10 +1,11 @@
-/* The proved core of Skogmund, for C and for what can call C. `rt staticlib skogmund` proves and writes target/staticlib/libskogmund.a, for
-   x86-64 and the System V calling convention; of other libraries it calls memcpy, memmove and memset only.
+/* The proved core of Skogmund, for C and for what can call C. `tools/library` proves it, compiles it for the processor at hand and prints the
+   directory of its libskogmund.a; for x86-64 and the System V calling convention that is what `rt staticlib skogmund` writes. Of other
+   libraries it calls memcpy, memmove and memset only.
 
-   A refusal is one number: 0 for none, else number x 2^40 + section x 2^32 + place; docs/REFUSALS.md has the numbers and their order. A slice is
-   a pointer and, behind it, how many elements it has; a slice of none may come with a null pointer. What is lent as a pointer to const is
-   only read. Nothing is kept between calls, and there is no heap. No entry asks for more than pointers that are valid for their lengths, and
-   slices that do not overlap one that is written to. A refusal leaves everything lent as it was.
+   A refusal is one number, 0 for none; it is taken apart below. docs/RULES.md has when each is given, and their order. A slice is a pointer and,
+   behind it, how many elements it has; a slice of none may come with a null pointer. What is lent as a pointer to const is only read. Nothing is
+   kept between calls, and there is no heap. No entry asks for more than pointers that are valid for their lengths, and slices that do not
+   overlap one that is written to. A refusal leaves everything lent as it was.
 
    Stack, in octets, by the frames of the compiled entries: list 52,000; file_queue 29,000; file 17,000; join 13,000; empty 10,000; the others
    below 2,000. */
@@ -17,6 +18,41 @@
 #if SIZE_MAX < UINT64_MAX
 #error "skogmund needs a size_t of 64 bits"
 #endif
+
+/* The version of what is declared here: the first number rises where an entry or a name that was there changes, the second where one is new. */
+#define SKOGMUND_VERSION_MAJOR 1
+#define SKOGMUND_VERSION_MINOR 0
+#define SKOGMUND_VERSION (SKOGMUND_VERSION_MAJOR * 1000 + SKOGMUND_VERSION_MINOR)
+
+/* ---- refusals
+
+   A refusal is number x 2^40 + section x 2^32 + place. The section is 0 where none is meant, and the place where there is none; otherwise it is
+   an octet of the section, from 1. Each of the three is an `unsigned`. */
+#define SKOGMUND_NUMBER(refusal) ((unsigned)((uint64_t)(refusal) >> 40))
+#define SKOGMUND_SECTION(refusal) ((unsigned)((uint64_t)(refusal) >> 32 & 255))
+#define SKOGMUND_PLACE(refusal) ((unsigned)((uint64_t)(refusal) & 0xffffffff))
+
+/* The numbers. */
+#define SKOGMUND_REFUSED_UNDER_5 1        /* under 5 octets */
+#define SKOGMUND_REFUSED_TOO_LONG 2       /* a section or a queue above 65,536 octets */
+#define SKOGMUND_REFUSED_LENGTH 3         /* octets 1-4 are not the lent length */
+#define SKOGMUND_REFUSED_SECTION 4        /* another section number */
+#define SKOGMUND_REFUSED_UNDER_HEAD 5     /* too short for what stands before the template, and its number */
+#define SKOGMUND_REFUSED_TEMPLATE 6       /* a template that is not read */
+#define SKOGMUND_REFUSED_UNDER_TEMPLATE 7 /* under the template's smallest total */
+#define SKOGMUND_REFUSED_FIELD 8          /* a field out of its range; the place is the first octet of the lowest */
+#define SKOGMUND_REFUSED_NO_RANGE 9       /* no time range: n is 0 */
+#define SKOGMUND_REFUSED_WIDTH 10         /* section 3's width, Ni, Nj, Di, Dj and octet 12 disagree */
+#define SKOGMUND_REFUSED_TOTAL 11         /* the length is not the total */
+#define SKOGMUND_REFUSED_OVERFLOW 12      /* Ni x Nj above 64 bits */
+#define SKOGMUND_REFUSED_POINTS 13        /* the number of points is not Ni x Nj, or the list's sum */
+#define SKOGMUND_REFUSED_VALUES 14        /* section 5's N is not section 3's number of points */
+#define SKOGMUND_REFUSED_DATA 15          /* section 7's length is not the one that N and the bits give */
+#define SKOGMUND_REFUSED_SLOT 16          /* a slot above 63 */
+#define SKOGMUND_REFUSED_CALENDAR 17      /* a calendar that is not the Gregorian one */
+#define SKOGMUND_REFUSED_ROOM 18          /* too few places are lent, or a row or a shelf of another length */
+#define SKOGMUND_REFUSED_QUEUE 19         /* a number that no queue has, or a record past the queue's end */
+#define SKOGMUND_REFUSED_BODY 20          /* a record's body is not five sections of 5 or more octets */
 
 #ifdef __cplusplus
 extern "C" {
@@ -60,8 +96,9 @@ uint64_t skogmund_list(const uint8_t *queue, size_t n, uint8_t *text, size_t pla
    the issue; 15-41 octets 8-34 of section 4. Numbers are big-endian.
 
    Any octets are a shelf: a slot holds a card where its octet 1 is 1 and is empty where it is anything else, nothing else is looked at in an
-   empty slot, and no value is checked, so that a month of 200 is compared and shown as it is. Where an entry changes a shelf and answers 0 it writes all of it in the form
-   above, also where no slot holds another card than before. A shelf of another length is 18, after all other refusals. */
+   empty slot, and no value is checked, so that a month of 200 is compared and shown as it is. Where an entry changes a shelf and answers 0 it
+   writes all of it in the form above, also where no slot holds another card than before. A shelf of another length is 18, after all other
+   refusals. */
 #define SKOGMUND_SHELF 2624
 
 /* The empty shelf, all zero. */

@@ -73,8 +73,21 @@ pub mod raw {
     }
 }
 
-/// What an entry's number says: 0 is no refusal, else number x 2^40 + section x 2^32 + place. A number that no refusal
-/// has is kept as it came, so that a test can show it.
+/// An entry's number taken apart, as the header does it: number x 2^40 + section x 2^32 + place.
+pub fn number(code: u64) -> u64 {
+    code >> 40
+}
+
+pub fn section(code: u64) -> u8 {
+    (code >> 32) as u8
+}
+
+pub fn place(code: u64) -> u32 {
+    code as u32
+}
+
+/// What an entry's number says: 0 is no refusal. A number that no refusal has is kept as it came, so that a test can show
+/// it.
 #[derive(Clone, Copy, Debug, PartialEq, Eq)]
 pub enum Answer {
     Done,
@@ -84,12 +97,12 @@ pub enum Answer {
 
 impl Answer {
     pub fn of(code: u64) -> Answer {
-        match (code, code >> 40) {
+        match (code, number(code)) {
             (0, _) => Answer::Done,
             (_, number @ 1..=255) => Answer::Refused(Refusal {
                 number: number as u8,
-                section: (code >> 32) as u8,
-                place: code as u32,
+                section: section(code),
+                place: place(code),
             }),
             _ => Answer::NotANumberOfOurs(code),
         }
