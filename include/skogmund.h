@@ -1,7 +1,7 @@
 /* The proved core of Skogmund, for C and for what can call C. `rt staticlib skogmund` proves and writes target/staticlib/libskogmund.a, for
    x86-64 and the System V calling convention; of other libraries it calls memcpy, memmove and memset only.
 
-   A refusal is one number: 0 for none, else number x 2^40 + section x 2^32 + place; docs/RULES.md has the numbers and their order. A slice is
+   A refusal is one number: 0 for none, else number x 2^40 + section x 2^32 + place; docs/REFUSALS.md has the numbers and their order. A slice is
    a pointer and, behind it, how many elements it has; a slice of none may come with a null pointer. What is lent as a pointer to const is
    only read. Nothing is kept between calls, and there is no heap. No entry asks for more than pointers that are valid for their lengths, and
    slices that do not overlap one that is written to. A refusal leaves everything lent as it was.
