@@ -61,27 +61,16 @@ base-long StretchedAndRotated = omega arith
 poles-in : (template : Template) (s : List ℕ) → AllAllowed (after 72 (poles template)) s → PolesPresent template s
 unfolding AllAllowed placed pole poles
 poles-in LatLon s h = tt
-poles-in Rotated s h = (test-differs _ _ (h .1 .0), test-differs _ _ (h .1 .1 .0))
-poles-in Stretched s h = (test-differs _ _ (h .1 .1 .1 .1 .0), test-differs _ _ (h .1 .1 .1 .1 .1 .0))
-poles-in StretchedAndRotated s h = (
-  test-differs _ _ (h .1 .0),
-  test-differs _ _ (h .1 .1 .0),
-  test-differs _ _ (h .1 .1 .1 .1 .0),
-  test-differs _ _ (h .1 .1 .1 .1 .1 .0),
-)
+poles-in Rotated s h = search test-differs
+poles-in Stretched s h = search test-differs
+poles-in StretchedAndRotated s h = search test-differs
 
 in-poles : (template : Template) (s : List ℕ) → PolesPresent template s → AllAllowed (after 72 (poles template)) s
 unfolding AllAllowed placed pole poles
-in-poles LatLon s h = (refl, (refl, (refl, (refl, (refl, (refl, (refl, tt)))))))
-in-poles Rotated s h = (refl, (differs-test _ _ (h .0), (differs-test _ _ (h .1), (refl, (refl, (refl, (refl, tt)))))))
-in-poles Stretched s h = (refl, (refl, (refl, (refl, (differs-test _ _ (h .0), (differs-test _ _ (h .1), (refl, tt)))))))
-in-poles StretchedAndRotated s h = (
-  refl,
-  (
-    differs-test _ _ (h .0),
-    (differs-test _ _ (h .1), (refl, (differs-test _ _ (h .2), (differs-test _ _ (h .3), (refl, tt))))),
-  ),
-)
+in-poles LatLon s h = search
+in-poles Rotated s h = search (differs-test _ _ (h .0), differs-test _ _ (h .1))
+in-poles Stretched s h = search (differs-test _ _ (h .0), differs-test _ _ (h .1))
+in-poles StretchedAndRotated s h = search (differs-test _ _ (h .0), differs-test _ _ (h .1), differs-test _ _ (h .2), differs-test _ _ (h .3))
 
 -- ---- the list: what the tests say of the width, Ni, Nj, Di, Dj and octet 12
 
@@ -261,27 +250,9 @@ follows-accepted template s f =
     let fit = all-fits template s (f .list) in
     let source : beAt s 6 1 ≤ 0 = omega (arith, f .source) in
     let number : beAt s 13 2 ≤ 3 = rw (f .names) (number-up-to-3 template) in
-    let in-head : AllAllowed (after 0 gridHead) s = (
-      refl,
-      (
-        refl,
-        (
-          in-between 0 0 _ (omega arith, source),
-          (refl, (fit .width, (in-between 0 2 _ (omega arith, fit .interpretation), (refl, tt)))),
-        ),
-      ),
-    ) in
-    let in-counts : AllAllowed (after 30 counts) s = (
-      differs-test _ _ (f .ni),
-      (differs-test _ _ (f .nj), (refl, (differs-test _ _ (f .subdivisions), tt))),
-    ) in
-    let in-corners : AllAllowed (after 46 corners) s = (
-      differs-test _ _ (f .la1),
-      (
-        differs-test _ _ (f .lo1),
-        (refl, (differs-test _ _ (f .la2), (differs-test _ _ (f .lo2), (refl, (refl, (refl, tt)))))),
-      ),
-    ) in
+    let in-head : AllAllowed (after 0 gridHead) s = search (in-between 0 0 _ (omega arith, source), fit .width, in-between 0 2 _ (omega arith, fit .interpretation)) in
+    let in-counts : AllAllowed (after 30 counts) s = search (differs-test _ _ (f .ni), differs-test _ _ (f .nj), differs-test _ _ (f .subdivisions)) in
+    let in-corners : AllAllowed (after 46 corners) s = search (differs-test _ _ (f .la1), differs-test _ _ (f .lo1), differs-test _ _ (f .la2), differs-test _ _ (f .lo2)) in
     let fine =
     block-by-block-allowed template (listOctets s) s in-head in-counts in-corners (in-poles template s (f .poles))
     in
