@@ -9,8 +9,7 @@ use Rattle.layout.specs.Fields.{Value, none, missing, is, which, wholeIn, natur
 use Rattle.layout.specs.Outcomes.{Outcome, refused, read, refusal}
 use Rattle.layout.specs.Time.{timeIn}
 use Rattle.layout.proofs.Untold.{to32, back32, toSigned, backSigned, toTime, told-back}
-use Rattle.product.specs.Blocks.{parameterIn, processIn, forecastIn, scaledIn, surfaceIn, ensembleIn, clusterIn, probabilityIn, aerosolIn, endIn, intervalIn}
-use Rattle.product.specs.Blocks.{tagIn, aheadIn, behindIn, valuesIn}
+use Rattle.product.specs.Blocks.{parameterIn, processIn, forecastIn, scaledIn, surfaceIn, ensembleIn, clusterIn, probabilityIn, aerosolIn, endIn, intervalIn, tagIn, aheadIn, behindIn, valuesIn}
 use Rattle.product.specs.Section4.{told, outcome₄}
 use Rattle.product.specs.declared.blocks.Process.{Process}
 use Rattle.product.specs.declared.blocks.Scaled.{Scaled}
