@@ -25,7 +25,7 @@ use Rattle.grid.specs.Section3.{asTemplate, outcome₃}
 use Rattle.grid.specs.Accepted.{numberOf, Missing, Present, PolesPresent, NoList, AList, Follows₃}
 use Rattle.grid.specs.declared.templates.Template.{Template}
 use Rattle.grid.specs.declared.templates.Template.the-variants.{LatLon, Rotated, Stretched, StretchedAndRotated}
-use Rattle.grid.proofs.Widths.{which-width, width-listed, listed-not-0}
+use Rattle.grid.proofs.Widths.{which-width, width-listed, listed-not-0, base-between}
 use Rattle.grid.proofs.FieldsByBlock.{allowed-by-block, block-by-block-allowed}
 
 -- ---- the template
@@ -50,11 +50,8 @@ named Rotated = refl
 named Stretched = refl
 named StretchedAndRotated = refl
 
-base-long : (template : Template) → 72 ≤ baseEnd template
-base-long LatLon = omega arith
-base-long Rotated = omega arith
-base-long Stretched = omega arith
-base-long StretchedAndRotated = omega arith
+pub names-it : (template : Template) (s : List ℕ) → Follows₃ template s → templateNamed s ≡ template
+names-it template s f = ap templateNumbered (f .names) ∙ named template
 
 -- ---- the poles
 
@@ -256,13 +253,12 @@ follows-accepted template s f =
     let fine =
     block-by-block-allowed template (listOctets s) s in-head in-counts in-corners (in-poles template s (f .poles))
     in
-    let headed : Headed 3 s = record { long = omega (arith, base-long template); small = f .small; says-length = f .says-length; says-number = f .says-number } in
+    let headed : Headed 3 s = record { long = omega (arith, base-between template); small = f .small; says-length = f .says-length; says-number = f .says-number } in
     let listed = none-last 3 (reason 6 (ltb 3 (beAt s 13 2)) ∷ []) (asTemplate (templateNamed s) s) (le-ltb _ _ number, tt) in
-    let template-is : templateNamed s ≡ template = ap templateNumbered (f .names) ∙ named template in
     let fits : Fits (baseEnd template) (badPlace (after 0 (fields₃ template (listOctets s))) s) (disagreement s) (total template s) s = record { enough = omega (arith, fit .whole); in-range = none-bad _ s fine; own-kept = rw (fit .agree); whole = fit .whole } in
-    opening-last 3 s _ 14 headed (omega (arith, base-long template))
+    opening-last 3 s _ 14 headed (omega (arith, base-between template))
     ∙ listed
-    ∙ ap (λ (t : Template). asTemplate t s) template-is
+    ∙ ap (λ (t : Template). asTemplate t s) (names-it template s f)
     ∙ template-last 3 s _ _ _ _ _ fits
     ∙ none-last 3 (pointsReasons template s) (read (values₃ template s)) (fit .product, (same-test _ _ (fit .points), tt))
 
