@@ -25,7 +25,7 @@ use Rattle.grid.specs.Section3.{asTemplate, outcome₃}
 use Rattle.grid.specs.Accepted.{numberOf, Missing, Present, PolesPresent, NoList, AList, Follows₃}
 use Rattle.grid.specs.declared.templates.Template.{Template}
 use Rattle.grid.specs.declared.templates.Template.the-variants.{LatLon, Rotated, Stretched, StretchedAndRotated}
-use Rattle.grid.proofs.Widths.{which-width, width-listed, listed-not-0}
+use Rattle.grid.proofs.Widths.{which-width, width-listed, listed-not-0, base-between}
 use Rattle.grid.proofs.FieldsByBlock.{allowed-by-block, block-by-block-allowed}
 
 -- ---- the template
@@ -50,38 +50,24 @@ named Rotated = refl
 named Stretched = refl
 named StretchedAndRotated = refl
 
-base-long : (template : Template) → 72 ≤ baseEnd template
-base-long LatLon = omega arith
-base-long Rotated = omega arith
-base-long Stretched = omega arith
-base-long StretchedAndRotated = omega arith
+pub names-it : (template : Template) (s : List ℕ) → Follows₃ template s → templateNamed s ≡ template
+names-it template s f = ap templateNumbered (f .names) ∙ named template
 
 -- ---- the poles
 
 poles-in : (template : Template) (s : List ℕ) → AllAllowed (after 72 (poles template)) s → PolesPresent template s
 unfolding AllAllowed placed pole poles
 poles-in LatLon s h = tt
-poles-in Rotated s h = (test-differs _ _ (h .1 .0), test-differs _ _ (h .1 .1 .0))
-poles-in Stretched s h = (test-differs _ _ (h .1 .1 .1 .1 .0), test-differs _ _ (h .1 .1 .1 .1 .1 .0))
-poles-in StretchedAndRotated s h = (
-  test-differs _ _ (h .1 .0),
-  test-differs _ _ (h .1 .1 .0),
-  test-differs _ _ (h .1 .1 .1 .1 .0),
-  test-differs _ _ (h .1 .1 .1 .1 .1 .0),
-)
+poles-in Rotated s h = search test-differs
+poles-in Stretched s h = search test-differs
+poles-in StretchedAndRotated s h = search test-differs
 
 in-poles : (template : Template) (s : List ℕ) → PolesPresent template s → AllAllowed (after 72 (poles template)) s
 unfolding AllAllowed placed pole poles
-in-poles LatLon s h = (refl, (refl, (refl, (refl, (refl, (refl, (refl, tt)))))))
-in-poles Rotated s h = (refl, (differs-test _ _ (h .0), (differs-test _ _ (h .1), (refl, (refl, (refl, (refl, tt)))))))
-in-poles Stretched s h = (refl, (refl, (refl, (refl, (differs-test _ _ (h .0), (differs-test _ _ (h .1), (refl, tt)))))))
-in-poles StretchedAndRotated s h = (
-  refl,
-  (
-    differs-test _ _ (h .0),
-    (differs-test _ _ (h .1), (refl, (differs-test _ _ (h .2), (differs-test _ _ (h .3), (refl, tt))))),
-  ),
-)
+in-poles LatLon s h = search
+in-poles Rotated s h = search (differs-test _ _ (h .0), differs-test _ _ (h .1))
+in-poles Stretched s h = search (differs-test _ _ (h .0), differs-test _ _ (h .1))
+in-poles StretchedAndRotated s h = search (differs-test _ _ (h .0), differs-test _ _ (h .1), differs-test _ _ (h .2), differs-test _ _ (h .3))
 
 -- ---- the list: what the tests say of the width, Ni, Nj, Di, Dj and octet 12
 
@@ -261,37 +247,18 @@ follows-accepted template s f =
     let fit = all-fits template s (f .list) in
     let source : beAt s 6 1 ≤ 0 = omega (arith, f .source) in
     let number : beAt s 13 2 ≤ 3 = rw (f .names) (number-up-to-3 template) in
-    let in-head : AllAllowed (after 0 gridHead) s = (
-      refl,
-      (
-        refl,
-        (
-          in-between 0 0 _ (omega arith, source),
-          (refl, (fit .width, (in-between 0 2 _ (omega arith, fit .interpretation), (refl, tt)))),
-        ),
-      ),
-    ) in
-    let in-counts : AllAllowed (after 30 counts) s = (
-      differs-test _ _ (f .ni),
-      (differs-test _ _ (f .nj), (refl, (differs-test _ _ (f .subdivisions), tt))),
-    ) in
-    let in-corners : AllAllowed (after 46 corners) s = (
-      differs-test _ _ (f .la1),
-      (
-        differs-test _ _ (f .lo1),
-        (refl, (differs-test _ _ (f .la2), (differs-test _ _ (f .lo2), (refl, (refl, (refl, tt)))))),
-      ),
-    ) in
+    let in-head : AllAllowed (after 0 gridHead) s = search (in-between 0 0 _ (omega arith, source), fit .width, in-between 0 2 _ (omega arith, fit .interpretation)) in
+    let in-counts : AllAllowed (after 30 counts) s = search (differs-test _ _ (f .ni), differs-test _ _ (f .nj), differs-test _ _ (f .subdivisions)) in
+    let in-corners : AllAllowed (after 46 corners) s = search (differs-test _ _ (f .la1), differs-test _ _ (f .lo1), differs-test _ _ (f .la2), differs-test _ _ (f .lo2)) in
     let fine =
     block-by-block-allowed template (listOctets s) s in-head in-counts in-corners (in-poles template s (f .poles))
     in
-    let headed : Headed 3 s = record { long = omega (arith, base-long template); small = f .small; says-length = f .says-length; says-number = f .says-number } in
+    let headed : Headed 3 s = record { long = omega (arith, base-between template); small = f .small; says-length = f .says-length; says-number = f .says-number } in
     let listed = none-last 3 (reason 6 (ltb 3 (beAt s 13 2)) ∷ []) (asTemplate (templateNamed s) s) (le-ltb _ _ number, tt) in
-    let template-is : templateNamed s ≡ template = ap templateNumbered (f .names) ∙ named template in
     let fits : Fits (baseEnd template) (badPlace (after 0 (fields₃ template (listOctets s))) s) (disagreement s) (total template s) s = record { enough = omega (arith, fit .whole); in-range = none-bad _ s fine; own-kept = rw (fit .agree); whole = fit .whole } in
-    opening-last 3 s _ 14 headed (omega (arith, base-long template))
+    opening-last 3 s _ 14 headed (omega (arith, base-between template))
     ∙ listed
-    ∙ ap (λ (t : Template). asTemplate t s) template-is
+    ∙ ap (λ (t : Template). asTemplate t s) (names-it template s f)
     ∙ template-last 3 s _ _ _ _ _ fits
     ∙ none-last 3 (pointsReasons template s) (read (values₃ template s)) (fit .product, (same-test _ _ (fit .points), tt))
 

@@ -23,10 +23,6 @@ use Rattle.grid.specs.declared.Answer.the-variants.{Read, Refused}
 toEarthSize : List Value → EarthSize
 toEarthSize vs = record { factor = to32 (getD vs 0 none); value = to32 (getD vs 1 none) }
 
-earth-size-back : (x : EarthSize) → toEarthSize (earthSizeIn x) ≡ x
-unfolding toEarthSize earthSizeIn
-earth-size-back x = λ i. record { factor = back32 (x .factor) i; value = back32 (x .value) i }
-
 toPole : List Value → Pole
 toPole vs = record { latitude = wholeIn (getD vs 0 none); longitude = wholeIn (getD vs 1 none); «angle_or_factor» = naturalIn (getD vs 2 none) }
 
@@ -91,41 +87,7 @@ untold (read vs) =
 back : (a : Answer) → untold (told a) ≡ a
 unfolding untold told valuesIn commonIn earthIn earthSizeIn toEarthSize toCommon
 back (Refused x) = refl
-back (Read x) =
-    let earth = x .common .earth in
-    λ i. Read
-    (record {
-      length = x .length;
-      number = x .number;
-      source = x .source;
-      points = x .points;
-      «list_width» = x .«list_width»;
-      interpretation = x .interpretation;
-      template = x .template;
-      common =
-          record {
-            earth =
-                record {
-                  shape = earth .shape;
-                  radius = earth-size-back (earth .radius) i;
-                  «major_axis» = earth-size-back (earth .«major_axis») i;
-                  «minor_axis» = earth-size-back (earth .«minor_axis») i;
-                };
-            ni = back32 (x .common .ni) i;
-            nj = back32 (x .common .nj) i;
-            «basic_angle» = x .common .«basic_angle»;
-            subdivisions = back32 (x .common .subdivisions) i;
-            la1 = x .common .la1;
-            lo1 = x .common .lo1;
-            «component_flags» = x .common .«component_flags»;
-            la2 = x .common .la2;
-            lo2 = x .common .lo2;
-            di = back32 (x .common .di) i;
-            dj = back32 (x .common .dj) i;
-            «scanning_mode» = x .common .«scanning_mode»;
-          };
-      poles = poles-back (x .poles) i;
-    })
+back (Read x) = simp (back32, poles-back)
 
 pub determined : (s : List ℕ) (a b : Answer) → told a ≡ outcome₃ s → told b ≡ outcome₃ s → a ≡ b
 determined s a b p q = told-back told untold back a b (p ∙ sym q)

@@ -39,7 +39,7 @@ module _ (template : Template) (n : ℕ) (s : List ℕ) where
   pub block-by-block-allowed : AllAllowed (after 0 gridHead) s → AllAllowed (after 30 counts) s → AllAllowed (after 46 corners) s → AllAllowed (after 72 (poles template)) s → AllAllowed (after 0 (fields₃ template n)) s
   unfolding fields₃ AllAllowed placed widthOf gridHead earthSize earth counts corners common
   block-by-block-allowed in-head in-counts in-corners in-poles =
-      let in-earth : AllAllowed (after 14 earth) s = (refl, (refl, (refl, (refl, (refl, (refl, (refl, tt))))))) in
+      let in-earth : AllAllowed (after 14 earth) s = search in
       allowed-meet 0 gridHead (common ++ (poles template ++ (shown n ∷ []))) s in-head
       (allowed-meet 14 common (poles template ++ (shown n ∷ [])) s
       (allowed-meet 14 earth (counts ++ corners) s in-earth (allowed-meet 30 counts corners s in-counts in-corners))

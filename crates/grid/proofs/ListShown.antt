@@ -16,13 +16,13 @@ use Rattle.layout.specs.declared.Span.{Span}
 use Rattle.layout.proofs.Outcomes.{of-both}
 use Rattle.layout.proofs.Spans.{octets-after, after-within}
 use Rattle.grid.specs.Blocks.{hasList}
-use Rattle.grid.specs.Templates.{baseEnd, listWidth, listCount, listOctets, templateNumbered, templateNamed}
+use Rattle.grid.specs.Templates.{baseEnd, listWidth, listCount, listOctets, templateNamed}
 use Rattle.grid.specs.Points.{sumOf}
 use Rattle.grid.specs.Section3.{outcome₃}
 use Rattle.grid.specs.Views.{listSpan, list₃}
 use Rattle.grid.specs.Accepted.{Follows₃, NoList}
 use Rattle.grid.specs.declared.templates.Template.{Template}
-use Rattle.grid.proofs.AcceptedExactlyWhen.{all-fits, named, points-listed, accepted-follows, follows-accepted}
+use Rattle.grid.proofs.AcceptedExactlyWhen.{names-it, all-fits, points-listed, accepted-follows, follows-accepted}
 
 pub refused-shows-none : (s : List ℕ) (number section place : ℕ) → outcome₃ s ≡ refused number section place → list₃ s ≡ []
 unfolding listSpan ifRead
@@ -41,12 +41,9 @@ module _ (template : Template) (s : List ℕ) (f : Follows₃ template s) where
   whole : length s ≡ baseEnd template + listOctets s
   whole = all-fits template s (f .list) .whole
 
-  names-it : templateNamed s ≡ template
-  names-it = ap templateNumbered (f .names) ∙ named template
-
   stretch : list₃ s ≡ take (listOctets s) (drop (baseEnd template) s)
   unfolding listSpan ifRead
-  stretch = rw (follows-accepted template s f, names-it) (octets-after (baseEnd template) (listOctets s) s)
+  stretch = rw (follows-accepted template s f, names-it template s f) (octets-after (baseEnd template) (listOctets s) s)
 
   behind : list₃ s ≡ drop (baseEnd template) s
   behind = stretch ∙ take-all (listOctets s) (drop (baseEnd template) s) (simp length-drop (omega (arith, whole)))

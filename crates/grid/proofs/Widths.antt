@@ -48,8 +48,8 @@ pub agreed-list : (s : List ℕ) → agreed s ≡ true → (listWidth s ≡ 0 �
 unfolding agreed
 agreed-list s e h = both-hold _ _ (rw (ne-eqb _ _ h) at e) .0
 
-pub base-small : (template : Template) → baseEnd template ≤ 96
-base-small LatLon = omega arith
-base-small Rotated = omega arith
-base-small Stretched = omega arith
-base-small StretchedAndRotated = omega arith
+pub base-between : (template : Template) → (72 ≤ baseEnd template) × (baseEnd template ≤ 96)
+base-between LatLon = (omega arith, omega arith)
+base-between Rotated = (omega arith, omega arith)
+base-between Stretched = (omega arith, omega arith)
+base-between StretchedAndRotated = (omega arith, omega arith)

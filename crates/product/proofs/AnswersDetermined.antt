@@ -9,8 +9,7 @@ use Rattle.layout.specs.Fields.{Value, none, missing, is, which, wholeIn, natur
 use Rattle.layout.specs.Outcomes.{Outcome, refused, read, refusal}
 use Rattle.layout.specs.Time.{timeIn}
 use Rattle.layout.proofs.Untold.{to32, back32, toSigned, backSigned, toTime, told-back}
-use Rattle.product.specs.Blocks.{parameterIn, processIn, forecastIn, scaledIn, surfaceIn, ensembleIn, clusterIn, probabilityIn, aerosolIn, endIn, intervalIn}
-use Rattle.product.specs.Blocks.{tagIn, aheadIn, behindIn, valuesIn}
+use Rattle.product.specs.Blocks.{parameterIn, processIn, forecastIn, scaledIn, surfaceIn, ensembleIn, clusterIn, probabilityIn, aerosolIn, endIn, intervalIn, tagIn, aheadIn, behindIn, valuesIn}
 use Rattle.product.specs.Section4.{told, outcome₄}
 use Rattle.product.specs.declared.blocks.Process.{Process}
 use Rattle.product.specs.declared.blocks.Scaled.{Scaled}
@@ -35,30 +34,11 @@ toProcess vs =
       «cutoff_minutes» = naturalIn (getD vs 4 none);
     }
 
-process-back : (x : Process) (rest : List Value) → toProcess (processIn x ++ rest) ≡ x
-unfolding toProcess processIn
-process-back x rest =
-    λ i. record {
-      kind = x .kind;
-      background = x .background;
-      identifier = x .identifier;
-      «cutoff_hours» = back32 (x .«cutoff_hours») i;
-      «cutoff_minutes» = x .«cutoff_minutes»;
-    }
-
 toScaled : List Value → Scaled
 toScaled vs = record { factor = toSigned (getD vs 0 none); value = toSigned (getD vs 1 none) }
 
-scaled-back : (x : Scaled) (rest : List Value) → toScaled (scaledIn x ++ rest) ≡ x
-unfolding toScaled scaledIn
-scaled-back x rest = λ i. record { factor = backSigned (x .factor) i; value = backSigned (x .value) i }
-
 toSurface : List Value → Surface
 toSurface vs = record { kind = naturalIn (getD vs 0 none); level = toScaled (drop 1 vs) }
-
-surface-back : (x : Surface) (rest : List Value) → toSurface (surfaceIn x ++ rest) ≡ x
-unfolding toSurface surfaceIn
-surface-back x rest = λ i. record { kind = x .kind; level = scaled-back (x .level) rest i }
 
 toInterval : List Value → Interval
 toInterval vs = by (getD vs 0 none)
@@ -130,27 +110,12 @@ toPart (suc (suc (suc (suc n)))) ahead behind =
     })
 
 part-back : (x : Part) (a b : List Value) → toPart (tagIn x) (aheadIn x ++ a) (behindIn x ++ b) ≡ x
-unfolding toPart tagIn aheadIn behindIn ensembleIn clusterIn probabilityIn aerosolIn scaledIn
+unfolding toPart toScaled tagIn aheadIn behindIn ensembleIn clusterIn probabilityIn aerosolIn scaledIn
 part-back partNone a b = refl
 part-back (isEnsemble x) a b = refl
 part-back (isCluster x) a b = refl
-part-back (isProbability x) a b =
-    λ i. isProbability
-    (record {
-      number = x .number;
-      probabilities = x .probabilities;
-      kind = x .kind;
-      lower = scaled-back (x .lower) (scaledIn (x .upper) ++ b) i;
-      upper = scaled-back (x .upper) b i;
-    })
-part-back (isAerosol x) a b =
-    λ i. isAerosol
-    (record {
-      kind = x .kind;
-      «interval_of_sizes» = x .«interval_of_sizes»;
-      first = scaled-back (x .first) (scaledIn (x .second) ++ a) i;
-      second = scaled-back (x .second) a i;
-    })
+part-back (isProbability x) a b = simp backSigned
+part-back (isAerosol x) a b = simp backSigned
 
 -- how many values these are
 aheadCount : ℕ → ℕ
@@ -206,27 +171,8 @@ toProduct vs =
     }
 
 product-back : (x : Product) → toProduct (valuesIn x) ≡ x
-unfolding toProduct valuesIn parameterIn processIn forecastIn surfaceIn scaledIn
-product-back x =
-    let behind = behindIn (x .part) ++ intervalIn (x .interval) in
-    let second = surfaceIn (x .«second_surface») ++ behind in
-    let first = surfaceIn (x .«first_surface») ++ second in
-    let common = processIn (x .process) ++ (forecastIn (x .forecast) ++ first) in
-    let skipped = skip-ahead (x .part) common in
-    let last = ap (λ (vs : List Value). drop (behindCount (tagIn (x .part))) (drop 13 vs)) skipped ∙ skip-behind (x .part) (intervalIn (x .interval)) in
-    λ i. record {
-      length = x .length;
-      number = x .number;
-      nv = x .nv;
-      template = x .template;
-      parameter = x .parameter;
-      process = (ap toProcess skipped ∙ process-back (x .process) (forecastIn (x .forecast) ++ first)) i;
-      forecast = record { unit = naturalIn (getD (skipped i) 5 none); time = wholeIn (getD (skipped i) 6 none) };
-      «first_surface» = (ap (λ (vs : List Value). toSurface (drop 7 vs)) skipped ∙ surface-back (x .«first_surface») second) i;
-      «second_surface» = (ap (λ (vs : List Value). toSurface (drop 10 vs)) skipped ∙ surface-back (x .«second_surface») behind) i;
-      part = (ap (λ (vs : List Value). toPart (tagIn (x .part)) (aheadIn (x .part) ++ common) (drop 13 vs)) skipped ∙ part-back (x .part) common (intervalIn (x .interval))) i;
-      interval = (ap toInterval last ∙ interval-back (x .interval)) i;
-    }
+unfolding toProduct toProcess toSurface toScaled valuesIn parameterIn processIn forecastIn surfaceIn scaledIn
+product-back x = simp (skip-ahead, skip-behind, back32, backSigned, part-back, interval-back)
 
 untold : Outcome → Answer
 untold (refused n s p) = Refused (refusal n s p)

@@ -1,6 +1,7 @@
 -- What a caller is shown of a section 4: a time range, the members, the coordinates, as those very octets of the section.
 -- Assumes nothing.
 use Prim.Native.Nat.{ℕ, zero, suc, _+_, _*_}
+use mathlib.Core.Path.{_≡_}
 use mathlib.Core.List.{List, [], _++_}
 use mathlib.Core.Bool.{cond}
 use lib.Dec.{ltb}
@@ -12,6 +13,7 @@ use Rattle.product.specs.Templates.{templateOf, partEnd, rangesEnd, rang
 use Rattle.product.specs.Section4.{outcome₄}
 use Rattle.product.specs.declared.templates.Template.{Template}
 use Rattle.product.specs.declared.templates.Template.the-variants.{NotListed, Listed}
+use Rattle.product.specs.declared.views.Lists.{Lists}
 
 -- the template by which a section is read; a refused section has none
 abbrev pub templateRead : List ℕ → Template
@@ -43,6 +45,12 @@ memberSpan s = membersBy (templateRead s) s
 
 abbrev pub coordinateSpan : List ℕ → Span
 coordinateSpan s = coordinatesBy (templateRead s) s
+
+-- a program's lists say where these stand
+pub record ListsStand (x : Lists) (template : Template) (s : List ℕ) : Type 0 where
+  pub range : (k : ℕ) → cond (ltb k (x .ranges)) (spanAfter (x .«ranges_after» + 12 * k) 12) nowhere ≡ rangeBy template s k
+  pub members-are : x .members ≡ membersBy template s
+  pub coordinates-are : x .coordinates ≡ coordinatesBy template s
 
 -- ---- what is shown
 

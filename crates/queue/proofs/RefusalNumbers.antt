@@ -12,7 +12,7 @@ use Rattle.layout.specs.declared.Refusal.{Refusal}
 use Rattle.layout.proofs.Outcomes.{either}
 use Rattle.layout.proofs.Refusals.{wider, placeless}
 use Rattle.shelf.specs.declared.Shelf.{Shelf}
-use Rattle.filing.specs.Filing.{Filing, refusedFiling, accepted}
+use Rattle.filing.specs.Filing.{Filing, refusedFiling, accepted, filingOf}
 use Rattle.filing.specs.Refused.{filingTable}
 use Rattle.filing.specs.declared.Issue.{Issue}
 use Rattle.filing.specs.declared.Answer.{Answer}
@@ -36,8 +36,12 @@ body-refuses : (slot : ℕ) (issue : Issue) (s : List ℕ) (body : Body) → Ref
 unfolding bodyFiling
 body-refuses slot issue s NotFive = placeless recordTable 20 0 refl refl
 body-refuses slot issue s (Five e) =
-    of-record _
-    (refuses-filing slot issue (between s 0 (e .one)) (between s (e .one) (e .three)) (between s (e .three) (e .four)) (between s (e .four) (e .five)) (between s (e .five) (length s)))
+    let one = between s 0 (e .one) in
+    let three = between s (e .one) (e .three) in
+    let four = between s (e .three) (e .four) in
+    let five = between s (e .four) (e .five) in
+    let seven = between s (e .five) (length s) in
+    of-record (filingOf slot issue one three four five seven) (refuses-filing slot issue one three four five seven)
 
 pub record-refuses : (shelf : Shelf) (r : Sent) (x : Refusal) → recordFiled shelf r .answer ≡ Refused x → Listed recordTable x
 unfolding recordFiled recordFiling

@@ -41,16 +41,4 @@ returns-3 c =
     ))
 
 pub read-spec : {M : Type 1} → statement M
-read-spec =
-    tie.close
-    (tie.spec
-    free
-    returns
-    free
-    free
-    (λ c. search needs)
-    (λ c. search needs)
-    free
-    returns-2
-    free
-    returns-3)
+read-spec = tie.close (tie.spec free returns free free (λ c. search needs) (λ c. search needs) free returns-2 free returns-3)

@@ -7,7 +7,7 @@ use native.Mathlib.Omega.{arith}
 use borrow.Author.Needs.{needs}
 use borrow.Author.Tests.{eq-eqb, ne-eqb}
 use Rattle.grid.specs.Points.{pointsOf, sumOf}
-use Rattle.grid.proofs.Widths.{base-small, agreed-list}
+use Rattle.grid.proofs.Widths.{base-between, agreed-list}
 use Rattle.grid.proofs.points.points_of.Statement.{statement}
 use Rattle.grid.proofs.points.points_of.Tie as tie
 
@@ -23,7 +23,7 @@ returns c h =
 
 cast-list-sum : tie.Need-cast-list-sum
 cast-list-sum c =
-    let small : c .base-end .result ≤ 96 = rw (c .base-end .ensures) (base-small (c .before .before .before .before .args .template)) in
+    let small : c .base-end .result ≤ 96 = rw (c .base-end .ensures) (base-between (c .before .before .before .before .args .template) .1) in
     search needs
 
 returns-2 : tie.Need-returns-2

@@ -26,18 +26,4 @@ returns-2 c =
     (simp (c .before .total-of .ensures, d .base-end .ensures, add-sub-cancel-left) at (c .after2 .ensures))
 
 pub list-span-spec : {M : Type 1} → statement M
-list-span-spec =
-    tie.close
-    (tie.spec
-    free
-    (λ c. search needs)
-    (λ c. search needs)
-    free
-    returns
-    free
-    free
-    free
-    free
-    (λ c. search needs)
-    free
-    returns-2)
+list-span-spec = tie.close (tie.spec free (λ c. search needs) (λ c. search needs) free returns free free free free (λ c. search needs) free returns-2)

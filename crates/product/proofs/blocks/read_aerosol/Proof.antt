@@ -17,15 +17,4 @@ returns c =
     ∷ both-scaled (a .end) (now (a .section)) (c .before .read-scaled .ensures) (c .read-scaled2 .ensures) i
 
 pub read-aerosol-spec : {M : Type 1} → statement M
-read-aerosol-spec =
-    tie.close
-    (tie.spec
-    (λ c. search needs)
-    free
-    (λ c. search needs)
-    free
-    (λ c. search needs)
-    free
-    (λ c. search needs)
-    free
-    returns)
+read-aerosol-spec = tie.close (tie.spec (λ c. search needs) free (λ c. search needs) free (λ c. search needs) free (λ c. search needs) free returns)

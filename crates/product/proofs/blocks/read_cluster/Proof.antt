@@ -30,35 +30,6 @@ returns c =
 pub read-cluster-spec : {M : Type 1} → statement M
 read-cluster-spec =
     tie.close
-    (tie.spec
-    (λ c. search needs)
-    free
-    (λ c. search needs)
-    free
-    (λ c. search needs)
-    free
-    (λ c. search needs)
-    free
-    (λ c. search needs)
-    free
-    (λ c. search needs)
-    free
-    (λ c. search needs)
-    free
-    (λ c. search needs)
-    free
-    (λ c. search needs)
-    free
-    (λ c. search needs)
-    free
-    (λ c. search needs)
-    free
-    (λ c. search needs)
-    free
-    (λ c. search needs)
-    free
-    (λ c. search needs)
-    free
-    (λ c. search needs)
-    free
-    returns)
+    (tie.spec (λ c. search needs) free (λ c. search needs) free (λ c. search needs) free (λ c. search needs) free (λ c. search needs) free
+    (λ c. search needs) free (λ c. search needs) free (λ c. search needs) free (λ c. search needs) free (λ c. search needs) free
+    (λ c. search needs) free (λ c. search needs) free (λ c. search needs) free (λ c. search needs) free (λ c. search needs) free returns)

@@ -20,15 +20,4 @@ returns c =
     ++ (plain (c .before .u8-at .ensures i) ∷ plain (c .u32-at .ensures i) ∷ []))
 
 pub read-end-spec : {M : Type 1} → statement M
-read-end-spec =
-    tie.close
-    (tie.spec
-    (λ c. search needs)
-    free
-    (λ c. search needs)
-    free
-    (λ c. search needs)
-    free
-    (λ c. search needs)
-    free
-    returns)
+read-end-spec = tie.close (tie.spec (λ c. search needs) free (λ c. search needs) free (λ c. search needs) free (λ c. search needs) free returns)

@@ -15,13 +15,4 @@ returns c =
     ∷ []
 
 pub read-ensemble-spec : {M : Type 1} → statement M
-read-ensemble-spec =
-    tie.close
-    (tie.spec
-    (λ c. search needs)
-    free
-    (λ c. search needs)
-    free
-    (λ c. search needs)
-    free
-    returns)
+read-ensemble-spec = tie.close (tie.spec (λ c. search needs) free (λ c. search needs) free (λ c. search needs) free returns)

@@ -30,18 +30,5 @@ returns-5 c = rw (c .before .enum-told5 .given .1) (record { tags = refl; leads 
 pub read-part-spec : {M : Type 1} → statement M
 read-part-spec =
     tie.close
-    (tie.spec
-    (λ c. search needs)
-    (λ c. search needs)
-    free
-    (λ c. search needs)
-    free
-    (λ c. search needs)
-    free
-    (λ c. search needs)
-    free
-    returns
-    returns-2
-    returns-3
-    returns-4
-    returns-5)
+    (tie.spec (λ c. search needs) (λ c. search needs) free (λ c. search needs) free (λ c. search needs) free (λ c. search needs) free returns
+    returns-2 returns-3 returns-4 returns-5)

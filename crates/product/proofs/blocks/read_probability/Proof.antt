@@ -20,15 +20,5 @@ returns c =
 pub read-probability-spec : {M : Type 1} → statement M
 read-probability-spec =
     tie.close
-    (tie.spec
-    (λ c. search needs)
-    free
-    (λ c. search needs)
-    free
-    (λ c. search needs)
-    free
-    (λ c. search needs)
-    free
-    (λ c. search needs)
-    free
+    (tie.spec (λ c. search needs) free (λ c. search needs) free (λ c. search needs) free (λ c. search needs) free (λ c. search needs) free
     returns)

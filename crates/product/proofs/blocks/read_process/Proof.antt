@@ -19,15 +19,5 @@ returns c =
 pub read-process-spec : {M : Type 1} → statement M
 read-process-spec =
     tie.close
-    (tie.spec
-    (λ c. search needs)
-    free
-    (λ c. search needs)
-    free
-    (λ c. search needs)
-    free
-    (λ c. search needs)
-    free
-    (λ c. search needs)
-    free
+    (tie.spec (λ c. search needs) free (λ c. search needs) free (λ c. search needs) free (λ c. search needs) free (λ c. search needs) free
     returns)

@@ -3,8 +3,7 @@ use mathlib.Core.List.{_∷_, _++_}
 use native.Mathlib.Omega.{arith}
 use Rattle.layout.specs.Fields.{which, plain, placed, valuesOf}
 use denote.Ref.{now}
-use Rattle.product.specs.Blocks.{head}
-use Rattle.product.specs.Blocks.{valuesIn}
+use Rattle.product.specs.Blocks.{head, valuesIn}
 use Rattle.product.proofs.FieldsByBlock.{front-small, common-values, values-are}
 use borrow.Author.Needs.{needs}
 use Rattle.product.proofs.blocks.record_of.Statement.{statement}
@@ -47,23 +46,5 @@ returns c =
 pub record-of-spec : {M : Type 1} → statement M
 record-of-spec =
     tie.close
-    (tie.spec
-    free
-    free
-    free
-    free
-    free
-    free
-    (λ c. search needs)
-    free
-    (λ c. search needs)
-    (λ c. search needs)
-    free
-    add-read-surface
-    free
-    add-read-surface-2
-    free
-    free
-    free
-    free
-    returns)
+    (tie.spec free free free free free free (λ c. search needs) free (λ c. search needs) (λ c. search needs) free add-read-surface free
+    add-read-surface-2 free free free free returns)

@@ -13,13 +13,4 @@ unfolding rangesEnd
 returns-2 c = simp (c .if1 .left, c .before .part-end .ensures)
 
 pub ranges-end-spec : {M : Type 1} → statement M
-ranges-end-spec =
-    tie.close
-    (tie.spec
-    free
-    (λ c. search needs)
-    (λ c. search needs)
-    (λ c. search needs)
-    (λ c. search needs)
-    returns
-    returns-2)
+ranges-end-spec = tie.close (tie.spec free (λ c. search needs) (λ c. search needs) (λ c. search needs) (λ c. search needs) returns returns-2)

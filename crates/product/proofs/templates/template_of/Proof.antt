@@ -31,23 +31,8 @@ pub template-of-spec : {M : Type 1} → statement M
 unfolding templateOf
 template-of-spec =
     tie.close
-    (tie.spec
-    free
-    free
-    free
-    free
-    free
-    free
-    free
-    free
-    free
-    (λ c. arm (c .before .match .keys1) (c .listed .ensures))
-    (λ c. arm (c .before .match .keys2) (c .listed2 .ensures))
-    (λ c. arm (c .before .match .keys3) (c .listed3 .ensures))
-    (λ c. arm (c .before .match .keys4) (c .listed4 .ensures))
-    (λ c. arm (c .before .match .keys5) (c .listed5 .ensures))
-    (λ c. arm (c .before .match .keys6) (c .listed6 .ensures))
-    (λ c. arm (c .before .match .keys7) (c .listed7 .ensures))
-    (λ c. arm (c .before .match .keys8) (c .listed8 .ensures))
-    (λ c. arm (c .before .match .keys9) (c .listed9 .ensures))
-    returns-10)
+    (tie.spec free free free free free free free free free (λ c. arm (c .before .match .keys1) (c .listed .ensures))
+    (λ c. arm (c .before .match .keys2) (c .listed2 .ensures)) (λ c. arm (c .before .match .keys3) (c .listed3 .ensures))
+    (λ c. arm (c .before .match .keys4) (c .listed4 .ensures)) (λ c. arm (c .before .match .keys5) (c .listed5 .ensures))
+    (λ c. arm (c .before .match .keys6) (c .listed6 .ensures)) (λ c. arm (c .before .match .keys7) (c .listed7 .ensures))
+    (λ c. arm (c .before .match .keys8) (c .listed8 .ensures)) (λ c. arm (c .before .match .keys9) (c .listed9 .ensures)) returns-10)

@@ -9,12 +9,4 @@ unfolding total
 returns c = simp (c .ranges-end .ensures)
 
 pub total-of-spec : {M : Type 1} → statement M
-total-of-spec =
-    tie.close
-    (tie.spec
-    free
-    (λ c. search needs)
-    (λ c. search needs)
-    (λ c. search needs)
-    (λ c. search needs)
-    returns)
+total-of-spec = tie.close (tie.spec free (λ c. search needs) (λ c. search needs) (λ c. search needs) (λ c. search needs) returns)

@@ -1,44 +1,6 @@
 use Rattle.octets.proofs.Free.{free}
-use Rattle.product.specs.Views.{coordinatesBy}
-use borrow.Author.Needs.{needs}
 use Rattle.product.proofs.views.coordinate_span.Statement.{statement}
 use Rattle.product.proofs.views.coordinate_span.Tie as tie
 
-returns : tie.Need-returns
-unfolding coordinatesBy
-returns c = simp (← c .before .before .before .template-read .ensures, c .before .enum-told .given .1) (c .after .ensures)
-
-returns-2 : tie.Need-returns-2
-unfolding coordinatesBy
-returns-2 c =
-    let d = c .before .before .before .before in
-    simp (
-      ← d .before .before .before .before .template-read .ensures,
-      d .before .before .template .given .1,
-      ← d .range-count .ensures,
-      ← c .before .before .before .ranges-end .ensures,
-      ← c .before .before .member-count .ensures,
-      ← c .before .u16-at .ensures,
-    )
-    (c .after2 .ensures)
-
 pub coordinate-span-spec : {M : Type 1} → statement M
-coordinate-span-spec =
-    tie.close
-    (tie.spec
-    free
-    (λ c. search needs)
-    (λ c. search needs)
-    free
-    returns
-    free
-    free
-    free
-    (λ c. search needs)
-    free
-    (λ c. search needs)
-    (λ c. search needs)
-    (λ c. search needs)
-    (λ c. search needs)
-    free
-    returns-2)
+coordinate-span-spec = tie.close (tie.spec free (λ c. c .before .lists-read .ensures .coordinates-are))

@@ -1,3 +1,0 @@
-pub mod BadPlaces
-pub mod RefusalNumbers
-pub mod OneNumber
