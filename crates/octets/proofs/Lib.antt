@@ -2,3 +2,4 @@ pub mod Laws
 pub mod Digits
 pub mod Signs
 pub mod Free
+pub mod Lists

@@ -1,5 +1,4 @@
 pub mod Decimal
 pub mod Digits
-pub mod Laws
 pub mod Sizes
 pub mod Examples

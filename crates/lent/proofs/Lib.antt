@@ -1,0 +1,4 @@
+pub mod Answers
+pub mod Written
+pub mod Rows
+pub mod Examples
