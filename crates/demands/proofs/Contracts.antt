@@ -40,12 +40,13 @@ use Rattle.queue.specs.Records.{recordOf}
 use Rattle.queue.specs.Bodies.{bodyOf}
 use Rattle.queue.specs.Queues.{recordIn, recordFiled, queueRefusal, queueFiled}
 use Rattle.standard.specs.Input.{Holds}
-use Rattle.text.specs.Text.{written, startsWith, append, decimal, wholeNumber}
+use Rattle.lent.specs.Lent.{done, doneBoth, over, ifRoom}
+use Rattle.lent.specs.Written.{written, startsWith, append}
+use Rattle.text.specs.Text.{decimal, wholeNumber}
 use Rattle.report.specs.Texts.{listing, explanation}
-use Rattle.shelf_octets.specs.ShelfOctets.{shelfIn, octetsOf}
-use Rattle.values.specs.Lent.{done}
+use Rattle.shelf_octets.specs.ShelfOctets.{shelfIn, asOctets}
 use Rattle.values.specs.Records.{sectionOutcome, intoRow}
-use Rattle.skogmund.specs.Entries.{doneBoth, rowUnpacked, recordTold, listingTold}
+use Rattle.skogmund.specs.Entries.{rowUnpacked, recordTold, listingTold}
 use Rattle.skogmund.specs.Shelves.{emptied, joined, filedField, filedQueue, slotShown}
 use Rattle.skogmund.specs.Parts.{partTold}
 use Rattle.octets.proofs.u8_at.Reads as u8-at
@@ -111,8 +112,9 @@ use Rattle.queue.proofs.refusal_of.Reads as refusal-of-queue
 use Rattle.queue.proofs.file_record.Reads as file-record
 use Rattle.queue.proofs.file.Reads as file-queue
 use Rattle.standard.proofs.read_all.Reads as read-all
-use Rattle.text.proofs.octet.Reads as octet
-use Rattle.text.proofs.words.Reads as words
+use Rattle.lent.proofs.octet.Reads as octet
+use Rattle.lent.proofs.octets.Reads as octets
+use Rattle.lent.proofs.numbers.Reads as numbers
 use Rattle.text.proofs.number.Reads as number
 use Rattle.text.proofs.number_then.Reads as number-then
 use Rattle.text.proofs.signed.Reads as signed-text
@@ -329,11 +331,14 @@ queue-file lent given r later e = e
 pub standard-read-all : (lent : _) (given : _) (r : _) (later : _) → read-all.Learnt lent given r later → Holds r (now (later .0))
 standard-read-all lent given r later e = e
 
-pub text-octet : (lent : _) (given : _) (r : _) (later : _) → octet.Learnt lent given r later → written (now (later .0)) r ≡ append (written (now (given .0)) (given .1 .0)) (given .1 .1 .0 ∷ [])
-text-octet lent given r later e = e
+pub lent-octet : (lent : _) (given : _) (r : _) (later : _) → octet.Learnt lent given r later → written (now (later .0)) r ≡ append (written (now (given .0)) (given .1 .0)) (given .1 .1 .0 ∷ [])
+lent-octet lent given r later e = e
 
-pub text-words : (lent : _) (given : _) (r : _) (later : _) → words.Learnt lent given r later → written (now (later .0)) r ≡ append (written (now (given .0)) (given .1 .0)) (now (given .1 .1 .0))
-text-words lent given r later e = e
+pub lent-octets : (lent : _) (given : _) (r : _) (later : _) → octets.Learnt lent given r later → written (now (later .0)) r ≡ append (written (now (given .0)) (given .1 .0)) (now (given .1 .1 .0))
+lent-octets lent given r later e = e
+
+pub lent-numbers : (lent : _) (given : _) (r : _) (later : _) → numbers.Learnt lent given r later → done r (now (later .0)) ≡ ifRoom true false (leb (length (now (given .1 .0))) (length (now (given .0)))) (over (now (given .0)) (now (given .1 .0))) (now (given .0))
+lent-numbers lent given r later e = e
 
 pub text-number : (lent : _) (given : _) (r : _) (later : _) → number.Learnt lent given r later → written (now (later .0)) r ≡ append (written (now (given .0)) (given .1 .0)) (decimal (given .1 .1 .0))
 text-number lent given r later e = e
@@ -381,7 +386,7 @@ pub shelf-octets-slot-of : (lent : _) (given : _) (r : _) (later : _) → octets
     → r ≡ slotAt (shelfIn (now (given .0))) (given .1 .0)
 shelf-octets-slot-of lent given r later e = e
 
-pub shelf-octets-write : (lent : _) (given : _) (r : _) (later : _) → octets-write.Learnt lent given r later → written (now (later .0)) r ≡ append (written (now (given .0)) 0) (octetsOf (given .1 .0))
+pub shelf-octets-write : (lent : _) (given : _) (r : _) (later : _) → octets-write.Learnt lent given r later → written (now (later .0)) r ≡ append (written (now (given .0)) 0) (asOctets (given .1 .0))
 shelf-octets-write lent given r later e = e
 
 pub skogmund-unpacks : (lent : _) (given : _) (r : _) (later : _) → skogmund-unpack.Learnt lent given r later → done r (now (later .1 .1 .0)) ≡ rowUnpacked (now (given .0)) (now (given .1 .0)) (now (given .1 .1 .0))

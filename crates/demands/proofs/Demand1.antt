@@ -7,7 +7,7 @@ pub use Rattle.demands.proofs.EveryInput
 -- ".. ends, ..": each meets its contract, which is so only of code that ends.
 pub use Rattle.demands.proofs.EveryEntryEnds
 -- ".. and answers ..": for each answer type, any two answers that the contract allows for an input are one, with what was lent.
-pub use Rattle.demands.proofs.OneAnswer.{one-identification, one-grid, one-product, one-packing, one-data, one-field, one-unpacking, one-filing, one-answer, one-number, one-signed, one-time, one-text, one-done}
+pub use Rattle.demands.proofs.OneAnswer.{one-identification, one-grid, one-product, one-packing, one-data, one-field, one-unpacking, one-filing, one-answer, one-number, one-signed, one-time, one-written, one-done}
 -- ".. or refuses with a number from document 01.": its table lists the number for the section, and the place is 0 except with 8,
 -- and then an octet that a section can have.
 pub use Rattle.refusals.proofs.RefusalNumbers.{identification-refuses, grid-refuses, product-refuses, packing-refuses, data-refuses, unpacking-refuses, field-refuses, filing-refuses, record-refuses, queue-refuses, queue-number, head-number}

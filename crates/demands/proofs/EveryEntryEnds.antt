@@ -131,10 +131,12 @@ use Rattle.queue.proofs.file.Statement as queue-file
 use Rattle.queue.proofs.file.Met as queue-file-met
 use Rattle.queue.proofs.refusal_of.Statement as queue-refusal-of
 use Rattle.queue.proofs.refusal_of.Met as queue-refusal-of-met
-use Rattle.text.proofs.octet.Statement as text-octet
-use Rattle.text.proofs.octet.Met as text-octet-met
-use Rattle.text.proofs.words.Statement as text-words
-use Rattle.text.proofs.words.Met as text-words-met
+use Rattle.lent.proofs.octet.Statement as lent-octet
+use Rattle.lent.proofs.octet.Met as lent-octet-met
+use Rattle.lent.proofs.octets.Statement as lent-octets
+use Rattle.lent.proofs.octets.Met as lent-octets-met
+use Rattle.lent.proofs.numbers.Statement as lent-numbers
+use Rattle.lent.proofs.numbers.Met as lent-numbers-met
 use Rattle.text.proofs.number.Statement as text-number
 use Rattle.text.proofs.number.Met as text-number-met
 use Rattle.text.proofs.number_then.Statement as text-number-then
@@ -401,13 +403,18 @@ queue-file-ends = queue-file-met.met
 pub queue-refusal-of-ends : {M : Type 1} → queue-refusal-of.statement M
 queue-refusal-of-ends = queue-refusal-of-met.met
 
+-- ---- lent
+
+pub lent-octet-ends : {M : Type 1} → lent-octet.statement M
+lent-octet-ends = lent-octet-met.met
+
+pub lent-octets-ends : {M : Type 1} → lent-octets.statement M
+lent-octets-ends = lent-octets-met.met
+
+pub lent-numbers-ends : {M : Type 1} → lent-numbers.statement M
+lent-numbers-ends = lent-numbers-met.met
+
 -- ---- text
-
-pub text-octet-ends : {M : Type 1} → text-octet.statement M
-text-octet-ends = text-octet-met.met
-
-pub text-words-ends : {M : Type 1} → text-words.statement M
-text-words-ends = text-words-met.met
 
 pub text-number-ends : {M : Type 1} → text-number.statement M
 text-number-ends = text-number-met.met

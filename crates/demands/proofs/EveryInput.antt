@@ -75,8 +75,9 @@ use Rattle.queue.proofs.body_of.Reads as queue-body-of
 use Rattle.queue.proofs.file_record.Reads as queue-file-record
 use Rattle.queue.proofs.file.Reads as queue-file
 use Rattle.queue.proofs.refusal_of.Reads as queue-refusal-of
-use Rattle.text.proofs.octet.Reads as text-octet
-use Rattle.text.proofs.words.Reads as text-words
+use Rattle.lent.proofs.octet.Reads as lent-octet
+use Rattle.lent.proofs.octets.Reads as lent-octets
+use Rattle.lent.proofs.numbers.Reads as lent-numbers
 use Rattle.text.proofs.number.Reads as text-number
 use Rattle.text.proofs.number_then.Reads as text-number-then
 use Rattle.text.proofs.signed.Reads as text-signed
@@ -322,13 +323,18 @@ queue-file-takes lent given = tt
 pub queue-refusal-of-takes : TakesEvery queue-refusal-of.Asked
 queue-refusal-of-takes lent given = tt
 
+-- ---- lent
+
+pub lent-octet-takes : TakesEvery lent-octet.Asked
+lent-octet-takes lent given = tt
+
+pub lent-octets-takes : TakesEvery lent-octets.Asked
+lent-octets-takes lent given = tt
+
+pub lent-numbers-takes : TakesEvery lent-numbers.Asked
+lent-numbers-takes lent given = tt
+
 -- ---- text
-
-pub text-octet-takes : TakesEvery text-octet.Asked
-text-octet-takes lent given = tt
-
-pub text-words-takes : TakesEvery text-words.Asked
-text-words-takes lent given = tt
 
 pub text-number-takes : TakesEvery text-number.Asked
 text-number-takes lent given = tt

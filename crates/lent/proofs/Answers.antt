@@ -3,9 +3,11 @@
 use Prim.Native.Nat.{ℕ}
 use mathlib.Core.Path.{_≡_, refl, sym, ap, _∙_}
 use mathlib.Core.Logic.{_↔_}
-use mathlib.Core.Bool.{Bool, true, false}
+use mathlib.Core.Bool.{Bool, true, false, true≢false}
 use mathlib.Core.List.{List}
-use Rattle.lent.specs.Lent.{Done, done, ifRoom, Untouched}
+use lib.Dec.{leb}
+use lib.ListN.{length}
+use Rattle.lent.specs.Lent.{Done, done, over, ifRoom, Untouched}
 use Rattle.lent.specs.Written.{Written, written}
 
 -- ---- any two answers to the same are one, and so is what they leave
@@ -35,3 +37,19 @@ module _ {A B : Type 0} (fine refusal : A) where
 
     pub room-exactly : {R : Type 0} (t : Bool) (after before : B) → (t ≡ true) ↔ R → (ifRoom fine refusal t after before .answer ≡ fine) ↔ R
     room-exactly t after before r = ((λ e. r .0 (room-left t after before e .0)), (λ x. ap (λ (u : Bool). ifRoom fine refusal u after before .answer) (r .1 x)))
+
+-- what `numbers` says of a row: the numbers stand there, or all is as it was
+module _ (row ns : List ℕ) {later : List ℕ} {r : Bool} (e : done r later ≡ ifRoom true false (leb (length ns) (length row)) (over row ns) row) where
+  pub had-room : r ≡ true → (leb (length ns) (length row) ≡ true) × (later ≡ over row ns)
+  had-room h = by (leb (length ns) (length row)) (ap (λ (t : Bool). done t later) (sym h) ∙ e)
+    where
+      by : (t : Bool) → done true later ≡ ifRoom true false t (over row ns) row → (t ≡ true) × (later ≡ over row ns)
+      by true f = (refl, ap (λ (x : Done Bool (List ℕ)). x .lent) f)
+      by false f = absurd (true≢false (ap (λ (x : Done Bool (List ℕ)). x .answer) f))
+
+  pub had-none : r ≡ false → (leb (length ns) (length row) ≡ false) × (later ≡ row)
+  had-none h = by (leb (length ns) (length row)) (ap (λ (t : Bool). done t later) (sym h) ∙ e)
+    where
+      by : (t : Bool) → done false later ≡ ifRoom true false t (over row ns) row → (t ≡ false) × (later ≡ row)
+      by true f = absurd (true≢false (sym (ap (λ (x : Done Bool (List ℕ)). x .answer) f)))
+      by false f = (refl, ap (λ (x : Done Bool (List ℕ)). x .lent) f)

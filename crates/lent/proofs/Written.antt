@@ -9,8 +9,9 @@ use native.Mathlib.Nat.{zero-add}
 use native.Mathlib.Numerals.{add-one}
 use lib.Dec.{ltb}
 use lib.ListN.{length, take, drop, set, length-set, length-append}
-use lib.Seq.{sets, sets-eq, take-nil}
+use lib.Seq.{sets, sets-eq, take-nil, take-at}
 use borrow.Author.Tests.{lt-ltb, le-ltb, ltb-true, ltb-false}
+use Rattle.lent.specs.Lent.{over}
 use Rattle.lent.specs.Written.{Written, written, one, append, startsWith}
 use Rattle.lent.specs.Rows.{inTurn}
 
@@ -83,9 +84,22 @@ pub append-whole : (out t : List ℕ) → length t ≤ length out → append (wr
 unfolding startsWith
 append-whole out t h = simp zero-add at (append-fits (written out 0) t (omega arith))
 
-pub starts-within : (out t : List ℕ) {y : Written} → y ≡ startsWith out t → y .at ≤ length (y .octets)
-unfolding startsWith
-starts-within out t e = rw e (simp length-append (omega arith))
+-- where it ends, and what then stands before and behind that
+module _ (out t : List ℕ) {y : Written} (e : y ≡ startsWith out t) where
+  pub starts-within : y .at ≤ length (y .octets)
+  unfolding startsWith
+  starts-within = rw e (simp length-append (omega arith))
+
+  pub starts-to : y .at ≡ length t
+  unfolding startsWith
+  starts-to = ap (λ (w : Written). w .at) e
+
+  pub starts-over : y .octets ≡ over out t
+  unfolding startsWith
+  starts-over = ap (λ (w : Written). w .octets) e
+
+  pub starts-front : take (y .at) (y .octets) ≡ t
+  starts-front = ap (take (y .at)) starts-over ∙ take-at t (drop (length t) out) (y .at) (sym starts-to)
 
 -- ---- a loop that writes piece after piece: what is left, written behind what is written so far, makes the whole
 

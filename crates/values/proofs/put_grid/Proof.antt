@@ -9,7 +9,8 @@ use Rattle.octets.specs.Octets.{beAt}
 use Rattle.grid.specs.Section3.{templateNumbered, outcome₃}
 use Rattle.grid.specs.declared.Template.the-variants.{StretchedAndRotated}
 use Rattle.values.specs.Letters.{numbersBy}
-use Rattle.values.specs.Records.{withCount, PutsRecord}
+use Rattle.lent.specs.Lent.{withCount}
+use Rattle.values.specs.Records.{PutsRecord}
 use Rattle.values.proofs.Templates.{word₃, row₃, last₃}
 use Rattle.values.proofs.put_grid.Statement.{statement}
 use Rattle.values.proofs.put_grid.Tie as tie
