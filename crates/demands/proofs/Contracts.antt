@@ -3,8 +3,9 @@
 -- `ensures` as it stands. All entries of docs/ENTRIES.md are here but `standard::read_failed` and `standard::print`, which promise nothing.
 -- Assumes nothing.
 use mathlib.Core.Path.{_≡_}
-use mathlib.Core.Bool.{cond}
+use mathlib.Core.Bool.{true, false, cond}
 use mathlib.Core.List.{[], _∷_, _++_}
+use lib.Dec.{leb}
 use lib.ListN.{length, take, drop, replicate}
 use base.Logic.{SProp, ent, id⊢}
 use contract.Lifetimes.{Lfts}
