@@ -5,6 +5,7 @@
 -- "Each public entry takes every input, ends, ..": each crate states it of each of its entries, with what the entry's contract says (`Entry`,
 -- `entry/specs/Entry.antt`), and tests/entries compares these statements with the entries in the sources.
 pub use Rattle.octets.proofs.Entries as octets-entries
+pub use Rattle.lent.proofs.Entries as lent-entries
 pub use Rattle.layout.proofs.Entries as layout-entries
 pub use Rattle.identification.proofs.Entries as identification-entries
 pub use Rattle.grid.proofs.Entries as grid-entries
@@ -22,7 +23,7 @@ pub use Rattle.values.proofs.Entries as values-entries
 pub use Rattle.standard.proofs.Entries as standard-entries
 pub use Rattle.skogmund.proofs.Entries as skogmund-entries
 -- ".. and answers ..": for each answer type, any two answers that the contract allows for an input are one, with what was lent.
-pub use Rattle.demands.proofs.OneAnswer.{one-identification, one-grid, one-product, one-packing, one-data, one-field, one-unpacking, one-filing, one-answer, one-number, one-signed, one-time, one-text, one-done}
+pub use Rattle.demands.proofs.OneAnswer.{one-identification, one-grid, one-product, one-packing, one-data, one-field, one-unpacking, one-filing, one-answer, one-number, one-signed, one-time, one-written, one-done}
 -- ".. or refuses with a number from document 01.": its table lists the number for the section, and the place is 0 except with 8,
 -- and then an octet that a section can have.
 pub use Rattle.layout.proofs.Refusals.{head-told, opening-told, template-told}

@@ -65,7 +65,8 @@ use Rattle.product.specs.declared.templates.PartKind.{PartKind}
 use Rattle.product.proofs.AcceptedExactlyWhen.{accepted-exactly-when as exactly₄, accepted-follows as follows₄, follows-total}
 use Rattle.product.proofs.FieldsCoverOnce.{covered as covered₄}
 use Rattle.product.proofs.ViewsAreTheLayouts.{views-shown, range-whole, no-range, no-members, refused-nothing}
-use Rattle.packing.specs.Packed.{bitsFrom, packedAt, packedFrom, unpacked}
+use Rattle.lent.proofs.Rows.{each-filled}
+use Rattle.packing.specs.Packed.{bitsFrom, packedAt, unpacked}
 use Rattle.packing.specs.Unpacking.{unpackOutcome, rowBy, rowAfter, toldUnpacked, Unpacks}
 use Rattle.packing.specs.declared.Unpacked.the-variants.{Written}
 use Rattle.packing.specs.Section5 as five
@@ -234,15 +235,9 @@ parts-told part-number s k =
 
 -- ---- unpacking: number k is what the bits from k x bits on stand for, the most significant first
 
-number-from : (bits i n k : ℕ) (xs : List ℕ) → k < n → getD (packedFrom bits xs i n) k 0 ≡ packedAt bits xs (i + k)
-unfolding packedFrom
-number-from bits i zero k xs l = absurd (omega arith)
-number-from bits i (suc n) zero xs l = ap (packedAt bits xs) (omega arith)
-number-from bits i (suc n) (suc k) xs l = number-from bits (suc i) n k xs (omega arith) ∙ ap (packedAt bits xs) (omega arith)
-
 pub unpacked-means : (bits n k : ℕ) (xs : List ℕ) → k < n → getD (unpacked bits n xs) k 0 ≡ bitsFrom xs (k * bits) bits
 unfolding unpacked packedAt
-unpacked-means bits n k xs l = number-from bits 0 n k xs l ∙ ap (packedAt bits xs) (omega arith)
+unpacked-means bits n k xs l = each-filled 0 (packedAt bits xs) n k l
 
 -- a row is written exactly when sections 5 and 7 are accepted and it has N places, and then it holds the N numbers, and N is answered
 and-read : (a b : Outcome) (vs : List Value) → andThen a b ≡ read vs → ((us : List Value) × (a ≡ read us)) × (b ≡ read vs)

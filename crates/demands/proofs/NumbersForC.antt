@@ -32,10 +32,10 @@ use Rattle.queue.specs.declared.QueueAnswer.the-variants.{Filed as filedAll, Re
 use Rattle.queue.specs.Queues.{queueFiled}
 use Rattle.queue.specs.Refused.{queueTable}
 use Rattle.queue.proofs.RefusalNumbers.{queue-refuses}
-use Rattle.values.specs.Lent.{Done}
+use Rattle.lent.specs.Lent.{Done, ifRoom}
 use Rattle.values.specs.Refused.{readTable}
 use Rattle.values.proofs.RecordRead.{read-into-refuses}
-use Rattle.skogmund.specs.Entries.{code, codeOf, coded, ifRoom, rowUnpacked, recordTold, fits, listingTold}
+use Rattle.skogmund.specs.Entries.{code, codeOf, coded, noRoom, rowUnpacked, recordTold, fits, listingTold}
 use Rattle.skogmund.specs.Parts.{partTold}
 use Rattle.skogmund.specs.Shelves.{isShelf, emptied, joined, keptIn, fieldKept, filedField, queueKept, filedQueue, slotShown}
 use Rattle.skogmund.proofs.Answered.{taken-apart}
@@ -85,7 +85,7 @@ plainly table number e f = inr (refusal number 0 0, refl, placeless table number
 abbrev AnswersBy : {B : Type 0} → List Row → Done ℕ B → Type 0
 AnswersBy table x = Answers table (x .answer)
 
-room-answers : {B : Type 0} (table : List Row) (t : Bool) (after before : B) → oneOf (numbersOf table 0) 18 ≡ true → Answers table (ifRoom t after before .answer)
+room-answers : {B : Type 0} (table : List Row) (t : Bool) (after before : B) → oneOf (numbersOf table 0) 18 ≡ true → Answers table (ifRoom 0 noRoom t after before .answer)
 room-answers table t after before e = either (AnswersBy table) t (inl refl) (plainly table 18 e refl)
 
 pub part-answers : (part : ℕ) (s : List ℕ) (k : ℕ) (places : List ℕ) → Answers roomTable (partTold part s k places .answer)

@@ -32,8 +32,9 @@ use Rattle.field.proofs.AnswersDetermined.{determined as determined-field}
 use Rattle.shelf.specs.declared.Shelf.{Shelf}
 use Rattle.filing.specs.declared.Answer.{Answer}
 use Rattle.filing.specs.declared.Filed.{Filed}
-use Rattle.text.specs.Text.{Written, written}
-use Rattle.values.specs.Lent.{Done, done}
+-- `text` and `report`: the index that is answered and the lent buffer; `values::read_into` and every entry for C: the answer and the lent
+-- buffers, one or a pair
+pub use Rattle.lent.proofs.Answers.{one-written, one-done}
 
 -- ---- the readers, whose contracts say what an answer tells
 
@@ -80,11 +81,3 @@ one-time vs a b p q = sameTime a b (p ∙ sym q)
 -- `filing::file`: the answer and the lent shelf
 pub one-filing : (x : Filed) (a b : Answer) (after later : Shelf) → record { shelf = after; answer = a } ≡ x → record { shelf = later; answer = b } ≡ x → (a ≡ b) × (after ≡ later)
 one-filing x a b after later p q = let e = p ∙ sym q in (ap (λ (x : Filed). x .answer) e, ap (λ (x : Filed). x .shelf) e)
-
--- `text` and `report`: the index that is answered and the lent buffer
-pub one-text : (x : Written) (a b : ℕ) (after later : List ℕ) → written after a ≡ x → written later b ≡ x → (a ≡ b) × (after ≡ later)
-one-text x a b after later p q = let e = p ∙ sym q in (ap (λ (x : Written). x .at) e, ap (λ (x : Written). x .octets) e)
-
--- `values::read_into` and every entry for C: the answer and the lent buffers, one or a pair
-pub one-done : {A B : Type 0} (x : Done A B) (a b : A) (after later : B) → done a after ≡ x → done b later ≡ x → (a ≡ b) × (after ≡ later)
-one-done {A} {B} x a b after later p q = let e = p ∙ sym q in (ap (λ (x : Done A B). x .answer) e, ap (λ (x : Done A B). x .lent) e)

@@ -22,7 +22,7 @@ use Rattle.field.specs.Field.{FieldOutcome, refusedField, readField, onward, pa
 use Rattle.shelf.specs.declared.Shelf.{Shelf}
 use Rattle.shelf.specs.Shelves.{slotAt, joinShelf}
 use Rattle.shelf.specs.History.{Keeps}
-use Rattle.shelf_octets.specs.ShelfOctets.{shelfIn, octetsOf, joinOctets, Held, Stored}
+use Rattle.shelf_octets.specs.ShelfOctets.{shelfIn, asOctets, joinOctets, Held, Stored}
 use Rattle.shelf_octets.proofs.Laws as laws
 use Rattle.filing.specs.declared.Issue.{Issue}
 use Rattle.filing.specs.declared.Issue.the-variants.{NotNamed, Named}
@@ -179,11 +179,11 @@ stored-queue s q t a = by-refusal (eqb (queueRefusal q) 0)
 -- ---- each is read back from its octets
 
 pub read-after-filing : (o : List ℕ) (slot : ℕ) (issue : Issue) (s1 s3 s4 s5 s7 : List ℕ) → AllOctets o → AllOctets s1 → issueOf issue < 2 ^ 32
-    → shelfIn (octetsOf (filedOf (shelfIn o) slot issue s1 s3 s4 s5 s7 .shelf)) ≡ filedOf (shelfIn o) slot issue s1 s3 s4 s5 s7 .shelf
+    → shelfIn (asOctets (filedOf (shelfIn o) slot issue s1 s3 s4 s5 s7 .shelf)) ≡ filedOf (shelfIn o) slot issue s1 s3 s4 s5 s7 .shelf
 read-after-filing o slot issue s1 s3 s4 s5 s7 p a h =
     laws.read-back _ (stored-filed (shelfIn o) slot issue s1 s3 s4 s5 s7 (laws.stored-in o p) a h)
 
-pub read-after-queue : (o q : List ℕ) → AllOctets o → AllOctets q → shelfIn (octetsOf (queueFiled (shelfIn o) q .shelf)) ≡ queueFiled (shelfIn o) q .shelf
+pub read-after-queue : (o q : List ℕ) → AllOctets o → AllOctets q → shelfIn (asOctets (queueFiled (shelfIn o) q .shelf)) ≡ queueFiled (shelfIn o) q .shelf
 read-after-queue o q p a = laws.read-back _ (stored-queue (shelfIn o) q (laws.stored-in o p) a)
 
 pub read-after-joining : (a b : List ℕ) → AllOctets a → AllOctets b → shelfIn (joinOctets a b) ≡ joinShelf (shelfIn a) (shelfIn b)
@@ -198,10 +198,10 @@ stored-history (file slot x h) g = stored-filed (shelfOf h) slot (x .issue) (x .
 stored-history (queue q h) g = stored-queue (shelfOf h) q (stored-history h (g .1)) (g .0)
 stored-history (join h k) g = laws.stored-join (shelfOf h) (shelfOf k) (stored-history h (g .0)) (stored-history k (g .1))
 
-pub history-read-back : (h : History) → Given h → shelfIn (octetsOf (shelfOf h)) ≡ shelfOf h
+pub history-read-back : (h : History) → Given h → shelfIn (asOctets (shelfOf h)) ≡ shelfOf h
 history-read-back h g = laws.read-back (shelfOf h) (stored-history h g)
 
-pub octets-greatest-card : (h : History) → Given h → (slot : ℕ) → slot < 64 → Keeps (acceptedAt slot h) (slotAt (shelfIn (octetsOf (shelfOf h))) slot)
+pub octets-greatest-card : (h : History) → Given h → (slot : ℕ) → slot < 64 → Keeps (acceptedAt slot h) (slotAt (shelfIn (asOctets (shelfOf h))) slot)
 octets-greatest-card h g slot l = subst⁻¹ (λ (s : Shelf). Keeps (acceptedAt slot h) (slotAt s slot)) (history-read-back h g) (kept h slot l)
 
 -- ---- joining octets

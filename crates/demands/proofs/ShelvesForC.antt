@@ -13,17 +13,17 @@ use borrow.Author.Tests.{ltb-false}
 use Rattle.octets.specs.Octets.{AllOctets}
 use Rattle.shelf.specs.declared.Shelf.{Shelf}
 use Rattle.shelf.specs.Shelves.{slotAt, joinShelf}
-use Rattle.shelf_octets.specs.ShelfOctets.{shelfIn, octetsOf, joinOctets}
+use Rattle.shelf_octets.specs.ShelfOctets.{shelfIn, asOctets, joinOctets}
 use Rattle.shelf_octets.proofs.Laws.{empty-zeros}
 use Rattle.filing.specs.Filing.{filedOf}
 use Rattle.queue.specs.Queues.{queueFiled}
 use Rattle.queue.specs.Records.{issueFrom}
 use Rattle.queue.specs.History.{History, start, file, queue, join, shelfOf}
-use Rattle.values.specs.Lent.{Done, done}
-use Rattle.values.specs.Records.{withCount}
-use Rattle.skogmund.specs.Entries.{code, doneBoth, ifRoom}
+use Rattle.lent.specs.Lent.{Done, done, doneBoth, withCount, ifRoom}
+use Rattle.lent.proofs.Answers.{room-lent}
+use Rattle.skogmund.specs.Entries.{code, noRoom}
 use Rattle.skogmund.specs.Shelves.{isShelf, emptied, joined, filedField, filedQueue, slotNumbers, slotShown}
-use Rattle.skogmund.proofs.Answered.{room-left, field-left, queue-left}
+use Rattle.skogmund.proofs.Answered.{no-room-refuses, field-left, queue-left}
 use Rattle.demands.specs.Histories.{Given, Leaves, fieldOf}
 use Rattle.demands.proofs.ShelvesAsOctets.{issue-small, history-read-back}
 
@@ -32,8 +32,8 @@ says : (h : History) (s : List ℕ) → Leaves h s → shelfIn s ≡ shelfOf h
 says h s l = ap shelfIn (l .left) ∙ history-read-back h (l .given)
 
 -- 0 says that there was room
-left-by : {B : Type 0} (t : Bool) (after before later : B) → done 0 later ≡ ifRoom t after before → later ≡ after
-left-by {B} t after before later e = ap (λ (x : Done ℕ B). x .lent) e ∙ room-left t after before (sym (ap (λ (x : Done ℕ B). x .answer) e)) .1
+left-by : {B : Type 0} (t : Bool) (after before later : B) → done 0 later ≡ ifRoom 0 noRoom t after before → later ≡ after
+left-by = room-lent 0 noRoom no-room-refuses
 
 pub c-empties : (s s′ : List ℕ) → done 0 s′ ≡ emptied s → Leaves start s′
 unfolding emptied Given shelfOf
@@ -44,7 +44,7 @@ unfolding joined Given shelfOf
 c-joins g h s other s′ l m e =
     record {
       given = (l .given, m .given);
-      left = left-by (isShelf s && isShelf other) (joinOctets s other) s s′ e ∙ ap₂ (λ (a b : Shelf). octetsOf (joinShelf a b)) (says g s l) (says h other m);
+      left = left-by (isShelf s && isShelf other) (joinOctets s other) s s′ e ∙ ap₂ (λ (a b : Shelf). asOctets (joinShelf a b)) (says g s l) (says h other m);
     }
 
 pub c-files : (h : History) (s : List ℕ) (slot stored : ℕ) (s1 s3 s4 s5 s7 places s′ places′ : List ℕ) → Leaves h s → AllOctets s1 → doneBoth 0 s′ places′ ≡ filedField s slot stored s1 s3 s4 s5 s7 places
@@ -54,7 +54,7 @@ c-files h s slot stored s1 s3 s4 s5 s7 places s′ places′ l a e =
     let x = field-left s slot stored s1 s3 s4 s5 s7 places (sym (ap (λ (x : Done ℕ (List ℕ × List ℕ)). x .answer) e)) in
     record {
       given = (a, issue-small stored (x .0 .0), l .given);
-      left = ap (λ (x : Done ℕ (List ℕ × List ℕ)). x .lent .0) e ∙ x .1 ∙ ap (λ (y : Shelf). octetsOf (filedOf y slot (issueFrom stored) s1 s3 s4 s5 s7 .shelf)) (says h s l);
+      left = ap (λ (x : Done ℕ (List ℕ × List ℕ)). x .lent .0) e ∙ x .1 ∙ ap (λ (y : Shelf). asOctets (filedOf y slot (issueFrom stored) s1 s3 s4 s5 s7 .shelf)) (says h s l);
     }
 
 pub c-files-queue : (h : History) (s q places s′ places′ : List ℕ) → Leaves h s → AllOctets q → doneBoth 0 s′ places′ ≡ filedQueue s q places → Leaves (queue q h) s′
@@ -63,7 +63,7 @@ c-files-queue h s q places s′ places′ l a e =
     let x = queue-left s q places (sym (ap (λ (x : Done ℕ (List ℕ × List ℕ)). x .answer) e)) in
     record {
       given = (a, l .given);
-      left = ap (λ (x : Done ℕ (List ℕ × List ℕ)). x .lent .0) e ∙ x .2 ∙ ap (λ (y : Shelf). octetsOf (queueFiled y q .shelf)) (says h s l);
+      left = ap (λ (x : Done ℕ (List ℕ × List ℕ)). x .lent .0) e ∙ x .2 ∙ ap (λ (y : Shelf). asOctets (queueFiled y q .shelf)) (says h s l);
     }
 
 -- what the history's slot holds; `greatest-card` says which card that is
@@ -72,7 +72,7 @@ pub c-shows : (h : History) (s : List ℕ) (slot : ℕ) (values values′ : List
 unfolding slotShown
 c-shows h s slot values values′ l e = by (ltb 63 slot) refl e
   where
-    by : (t : Bool) → ltb 63 slot ≡ t → done 0 values′ ≡ cond t (done (code 16 0 0) values) (ifRoom (isShelf s && leb 64 (length values)) (withCount (slotNumbers (slotAt (shelfIn s) slot)) values) values)
+    by : (t : Bool) → ltb 63 slot ≡ t → done 0 values′ ≡ cond t (done (code 16 0 0) values) (ifRoom 0 noRoom (isShelf s && leb 64 (length values)) (withCount (slotNumbers (slotAt (shelfIn s) slot)) values) values)
         → (slot < 64) × (values′ ≡ withCount (slotNumbers (slotAt (shelfOf h) slot)) values)
     by true f e = absurd (omega (arith, ap (λ (x : Done ℕ (List ℤ)). x .answer) e))
     by false f e =

@@ -4,7 +4,7 @@ use Prim.Native.Nat.{ℕ, _^_, _<_}
 use mathlib.Core.Path.{_≡_}
 use mathlib.Core.List.{List}
 use Rattle.octets.specs.Octets.{AllOctets}
-use Rattle.shelf_octets.specs.ShelfOctets.{octetsOf}
+use Rattle.shelf_octets.specs.ShelfOctets.{asOctets}
 use Rattle.filing.specs.Filing.{issueOf}
 use Rattle.queue.specs.Records.{issueFrom}
 use Rattle.queue.specs.History.{Field, History, start, file, queue, join, shelfOf}
@@ -19,7 +19,7 @@ Given (join g h) = Given g × Given h
 -- these are the octets of the shelf at the end of such a history
 pub record Leaves (h : History) (octets : List ℕ) : Type 0 where
   pub given : Given h
-  pub left : octets ≡ octetsOf (shelfOf h)
+  pub left : octets ≡ asOctets (shelfOf h)
 
 -- a field as `skogmund_file` is given it, with its issue as a queue has it
 abbrev pub fieldOf : ℕ → List ℕ → List ℕ → List ℕ → List ℕ → List ℕ → Field

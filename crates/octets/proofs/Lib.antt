@@ -3,3 +3,4 @@ pub mod Digits
 pub mod Signs
 pub mod Free
 pub mod Entries
+pub mod Lists

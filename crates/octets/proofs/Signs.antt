@@ -8,7 +8,7 @@ use lib.IntN.{ℤ, pos, negsuc, negℤ, natAbs, _-ℤ_, _+ℤ_, _*ℤ_, +ℤ-idl
 use lib.Signed.{mag}
 use lib.Dec.{ltb}
 use borrow.Author.Tests.{lt-ltb, le-ltb, ltb-true, ltb-false}
-use mir.Syntax.{w32}
+use mir.Syntax.{w32, w64}
 use mir.Val.{SFits, toZ, ofZ}
 use mir.ValLaws.{toZ-ofZ, toZ-pos}
 use Rattle.octets.specs.Octets.{signOf, topBit, realYear}
@@ -65,8 +65,21 @@ abs-fits (pos n) h = record { sfits = h }
 abs-fits (negsuc n) h = record { sfits = omega arith }
 
 -- a signed number that a call gave, as it is read back from its bits
-pub kept : (z : ℤ) → mag z < 2 ^ 31 → toZ w32 (ofZ w32 z) ≡ z
-kept z h = toZ-ofZ w32 z (record { sfits = h })
+pub kept32 : (z : ℤ) → mag z < 2 ^ 31 → toZ w32 (ofZ w32 z) ≡ z
+kept32 z h = toZ-ofZ w32 z (record { sfits = h })
+
+pub kept64 : (z : ℤ) → mag z < 2 ^ 63 → toZ w64 (ofZ w64 z) ≡ z
+kept64 z h = toZ-ofZ w64 z (record { sfits = h })
+
+-- one of 32 bits in 64, as it is read back
+abbrev pub wide : ℤ → ℤ
+wide z = toZ w64 (ofZ w64 (toZ w32 (ofZ w32 z)))
+
+pub wide-kept : (z : ℤ) → mag z < 2 ^ 31 → wide z ≡ z
+wide-kept z h = ap (λ (x : ℤ). toZ w64 (ofZ w64 x)) (kept32 z h) ∙ kept64 z (omega arith)
+
+pub wide-fits : (z : ℤ) → mag z < 2 ^ 31 → SFits w64 (toZ w32 (ofZ w32 z))
+wide-fits z h = rw (kept32 z h) (record { sfits = omega arith })
 
 -- the machine's negation of a size
 module _ (m : ℕ) (h : m < 2 ^ 31) where

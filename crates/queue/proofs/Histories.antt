@@ -14,7 +14,7 @@ use Rattle.shelf.specs.Shelves.{slotAt, joinShelf}
 use Rattle.shelf.specs.declared.Shelf.{Shelf}
 use Rattle.shelf.specs.History.{Keeps, Tidy}
 use Rattle.shelf.proofs.CardHistory.{CardHistory as Cards, start as noCards, put, join as joinCards, shelfOf as shelfOfCards, acceptedAt as acceptedCards, fileAll}
-use Rattle.shelf.proofs.Histories.{tidy as tidy-cards, kept as kept-cards, same-shelf as same-cards}
+use Rattle.shelf.proofs.Histories.{tidy as tidy-cards, kept-cards, same-shelf as same-cards}
 use Rattle.filing.specs.Filing.{Filing, refusedFiling, accepted, filingOf, filedBy, filedOf}
 use Rattle.filing.specs.declared.Issue.{Issue}
 use Rattle.queue.specs.Bodies.{bodyOf}

@@ -3,7 +3,7 @@
 use mathlib.Core.Path.{_≡_}
 use lib.ListN.{length, replicate}
 use denote.Ref.{now}
-use Rattle.text.specs.Text.{written, append, startsWith}
+use Rattle.lent.specs.Written.{written, append, startsWith}
 use Rattle.report.specs.Texts as texts
 use Rattle.entry.specs.Entry.{Entry}
 use Rattle.report.proofs as code

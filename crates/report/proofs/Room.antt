@@ -7,6 +7,7 @@ use Prim.Native.Nat.{ℕ, zero, suc, _+_, _*_, _-_, _^_, _≤_, _<_}
 use native.Mathlib.Omega.{arith}
 use lib.Dec.{eqb}
 use lib.ListN.{length, drop, length-append, length-drop}
+use Rattle.lent.specs.Rows.{inTurn}
 use Rattle.layout.specs.declared.Refusal.{Refusal}
 use Rattle.card.specs.declared.Card.{Card}
 use Rattle.shelf.specs.Shelves.{emptyShelf, slotAt}
@@ -26,10 +27,10 @@ use Rattle.queue.specs.declared.QueueAnswer.the-variants.{Filed as filedAll, Re
 use Rattle.queue.proofs.Taken.{taken}
 use Rattle.queue.proofs.Cuts.{stands}
 use Rattle.queue.proofs.FiledQueues.{files}
-use Rattle.text.specs.Text.{written, append, startsWith}
-use Rattle.text.proofs.Laws.{append-whole}
+use Rattle.lent.specs.Written.{written, append, startsWith}
+use Rattle.lent.proofs.Written.{append-whole}
 use Rattle.text.proofs.Decimal.{decimal-short, decimal-most, whole-number-most}
-use Rattle.report.specs.Texts.{countsLine, refusedLine, templateIn, timeText, cardLine, slotLine, slotLines, filedListing, listingOf, issueText, fate, recordLine, recordLines, filedExplanation, explanationOf, listing, explanation}
+use Rattle.report.specs.Texts.{countsLine, refusedLine, templateIn, timeText, cardLine, slotLine, filedListing, listingOf, issueText, fate, recordLine, recordLines, filedExplanation, explanationOf, listing, explanation}
 
 -- ---- the lines that both have
 
@@ -57,10 +58,10 @@ slot-line slot x = by-held (x .held)
     by-held true = card-line slot (x .card)
     by-held false = omega arith
 
-slot-lines : (s : Shelf) (slot more : ℕ) → length (slotLines s slot more) ≤ 190 * more
-unfolding slotLines
+slot-lines : (s : Shelf) (slot more : ℕ) → length (inTurn (λ (n : ℕ). slotLine n (slotAt s n)) slot more) ≤ 190 * more
+unfolding inTurn
 slot-lines s slot zero = omega arith
-slot-lines s slot (suc more) = simp length-append (omega (arith, slot-line slot (slotAt s slot), slot-lines s (slot + 1) more))
+slot-lines s slot (suc more) = simp length-append (omega (arith, slot-line slot (slotAt s slot), slot-lines s (suc slot) more))
 
 listing-of : (s : Shelf) (a : QueueAnswer) → length (listingOf s a) ≤ 16384
 unfolding listingOf filedListing

@@ -1,10 +1,11 @@
 -- What the two programs print of a queue, octet by octet: the listing of what is held after filing it to an empty shelf, and the
 -- explanation of what became of each record. Decimal, one space, a minus sign before a negative year; each line ends in a line end.
 -- Assumes nothing.
-use Prim.Native.Nat.{ℕ, zero, suc, _+_}
+use Prim.Native.Nat.{ℕ, _+_}
 use mathlib.Core.List.{List, [], _∷_, _++_}
 use mathlib.Core.Bool.{cond}
 use Rattle.octets.specs.Octets.{beAt}
+use Rattle.lent.specs.Rows.{inTurn}
 use Rattle.layout.specs.declared.Refusal.{Refusal}
 use Rattle.card.specs.declared.Card.{Card}
 use Rattle.shelf.specs.Shelves.{emptyShelf, slotAt}
@@ -54,14 +55,13 @@ cardLine slot c =
 unfoldable pub slotLine : ℕ → Slot → List ℕ
 slotLine slot x = cond (x .held) (cardLine slot (x .card)) []
 
--- so many slots from one on, rising
-unfoldable pub slotLines : Shelf → ℕ → ℕ → List ℕ
-slotLines s slot zero = []
-slotLines s slot (suc more) = slotLine slot (slotAt s slot) ++ slotLines s (slot + 1) more
+-- the 64 slots, rising
+abbrev pub slotLines : Shelf → List ℕ
+slotLines s = inTurn (λ (n : ℕ). slotLine n (slotAt s n)) 0 64
 
 unfoldable pub filedListing : Shelf → Counts → List ℕ
 filedListing shelf n =
-    ascii "slot year month day hour minute second issue template\n" ++ (slotLines shelf 0 64 ++ countsLine n)
+    ascii "slot year month day hour minute second issue template\n" ++ (slotLines shelf ++ countsLine n)
 
 unfoldable pub listingOf : Shelf → QueueAnswer → List ℕ
 listingOf shelf (filedAll n) = filedListing shelf n

@@ -5,7 +5,7 @@ ghost use lib.ListN.{length, replicate};
 ghost use Rattle.octets.specs.Octets.{beAt};
 ghost use Rattle.queue.specs.Queues.{cutOf};
 ghost use Rattle.shelf.specs.Shelves.{emptyShelf};
-ghost use Rattle.text.specs.Text.{written, append, startsWith};
+ghost use Rattle.lent.specs.Written.{written, append, startsWith};
 ghost use Rattle.report.specs.Texts.{countsLine, refusedLine, timeText, cardLine, slotLine, slotLines, filedListing, listingOf, issueText, refusedFate, fate, recordLine, recordLines, filedExplanation, explanationOf, listing, explanation};
 use card::Card;
 use filing::Answer;
@@ -66,7 +66,7 @@ fn list(out: &mut [u8], shelf: Shelf, answer: QueueAnswer) -> usize
 fn list_filed(out: &mut [u8], shelf: Shelf, counts: Counts) -> usize
     ensures { λ r. ⌜ written (now (out .exit)) r ≡ append (written (now (out .entry)) 0) (filedListing shelf counts) ⌝ }
 {
-    let heading = text::words(
+    let heading = lent::octets(
         out,
         0,
         b"slot year month day hour minute second issue template\n",
@@ -76,7 +76,7 @@ fn list_filed(out: &mut [u8], shelf: Shelf, counts: Counts) -> usize
 }
 
 fn slot_lines(out: &mut [u8], at: usize, shelf: Shelf) -> usize
-    ensures { λ r. ⌜ written (now (out .exit)) r ≡ append (written (now (out .entry)) at) (slotLines shelf 0 64) ⌝ }
+    ensures { λ r. ⌜ written (now (out .exit)) r ≡ append (written (now (out .entry)) at) (slotLines shelf) ⌝ }
 {
     let mut next = at;
     let mut i: usize = 0;
@@ -104,7 +104,7 @@ fn card_line(out: &mut [u8], at: usize, i: usize, card: Card) -> usize
     let template = template_in(product);
     let a = text::number_then(out, at, i as u64, b' ');
     let b = text::signed(out, a, card.year);
-    let c = text::octet(out, b, b' ');
+    let c = lent::octet(out, b, b' ');
     let d = time_text(out, c, card);
     let e = text::number_then(out, d, card.issue as u64, b' ');
     text::number_then(out, e, template as u64, b'\n')
@@ -129,18 +129,18 @@ fn time_text(out: &mut [u8], at: usize, card: Card) -> usize
 fn counts_line(out: &mut [u8], at: usize, counts: Counts) -> usize
     ensures { λ r. ⌜ written (now (out .exit)) r ≡ append (written (now (out .entry)) at) (countsLine counts) ⌝ }
 {
-    let a = text::words(out, at, b"kept ");
+    let a = lent::octets(out, at, b"kept ");
     let b = text::number(out, a, counts.kept as u64);
-    let c = text::words(out, b, b" passed ");
+    let c = lent::octets(out, b, b" passed ");
     let d = text::number(out, c, counts.passed as u64);
-    let e = text::words(out, d, b" refused ");
+    let e = lent::octets(out, d, b" refused ");
     text::number_then(out, e, counts.refused as u64, b'\n')
 }
 
 fn refused_line(out: &mut [u8], refusal: Refusal) -> usize
     ensures { λ r. ⌜ written (now (out .exit)) r ≡ append (written (now (out .entry)) 0) (refusedLine refusal) ⌝ }
 {
-    let a = text::words(out, 0, b"refused ");
+    let a = lent::octets(out, 0, b"refused ");
     text::number_then(out, a, refusal.number as u64, b'\n')
 }
 
@@ -172,7 +172,7 @@ fn explain(out: &mut [u8], queue: &[u8], answer: QueueAnswer) -> usize
 fn explain_filed(out: &mut [u8], queue: &[u8], counts: Counts) -> usize
     ensures { λ r. ⌜ written (now (out .exit)) r ≡ append (written (now (out .entry)) 0) (filedExplanation (cutOf (now (queue .entry)) .records) counts) ⌝ }
 {
-    let heading = text::words(out, 0, b"record slot issue fate\n");
+    let heading = lent::octets(out, 0, b"record slot issue fate\n");
     let records = record_lines(out, heading, queue);
     counts_line(out, records, counts)
 }
@@ -213,7 +213,7 @@ fn issue_text(out: &mut [u8], at: usize, issue: Issue) -> usize
     ensures { λ r. ⌜ written (now (out .exit)) r ≡ append (written (now (out .entry)) at) (issueText issue) ⌝ }
 {
     let Issue::Named(n) = issue else {
-        return text::octet(out, at, b'-');
+        return lent::octet(out, at, b'-');
     };
     text::number(out, at, n as u64)
 }
@@ -222,8 +222,8 @@ fn fate(out: &mut [u8], at: usize, answer: Answer) -> usize
     ensures { λ r. ⌜ written (now (out .exit)) r ≡ append (written (now (out .entry)) at) (fate answer) ⌝ }
 {
     match answer {
-        Answer::Kept => text::words(out, at, b" kept\n"),
-        Answer::Passed => text::words(out, at, b" passed\n"),
+        Answer::Kept => lent::octets(out, at, b" kept\n"),
+        Answer::Passed => lent::octets(out, at, b" passed\n"),
         Answer::Refused(x) => refused_fate(out, at, x),
     }
 }
@@ -231,7 +231,7 @@ fn fate(out: &mut [u8], at: usize, answer: Answer) -> usize
 fn refused_fate(out: &mut [u8], at: usize, x: Refusal) -> usize
     ensures { λ r. ⌜ written (now (out .exit)) r ≡ append (written (now (out .entry)) at) (refusedFate x) ⌝ }
 {
-    let a = text::words(out, at, b" refused ");
+    let a = lent::octets(out, at, b" refused ");
     let b = text::number_then(out, a, x.number as u64, b' ');
     let c = text::number_then(out, b, x.section as u64, b' ');
     text::number_then(out, c, x.place as u64, b'\n')

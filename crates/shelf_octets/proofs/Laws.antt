@@ -7,13 +7,13 @@ use Prim.Native.Nat.{ℕ, zero, suc, _+_, _*_, _≤_, _<_}
 use native.Mathlib.Decide.{ℕ-discrete}
 use native.Mathlib.Omega.{arith}
 use native.Mathlib.Nat.{not-suc-le-zero, le-of-suc-le-suc}
-use native.Mathlib.Numerals.{add-one}
 use lib.Dec.{eqb}
 use lib.ListN.{length, take, drop, replicate, getD, length-append, getD-replicate, replicate-append-replicate}
 use lib.Seq.{take-at, drop-at, take-all, drop-cons, drop-drop}
 use Rattle.octets.specs.Octets.{beAt, part, be, digits, AllOctets}
 use Rattle.octets.proofs.Laws.{part-length, part-all, part-behind, beAt-one, beAt-below, take-octets, drop-octets}
 use Rattle.octets.proofs.Digits.{beAt-digits}
+use Rattle.lent.specs.Rows.{inTurn}
 use Rattle.card.specs.declared.Card.{Card}
 use Rattle.shelf.specs.declared.Slot.{Slot}
 use Rattle.shelf.specs.declared.Shelf.{Shelf}
@@ -21,7 +21,7 @@ use Rattle.shelf.specs.Shelves.{blank, holding, slotAt, emptyShelf, putShelf, j
 use Rattle.shelf.specs.History.{Tidy}
 use Rattle.shelf.proofs.Slots.{one-of}
 use Rattle.shelf.proofs.Laws.{shelf, shelf-join, tidy-empty, tidy-put, tidy-join, put-same, put-other, join-at}
-use Rattle.shelf_octets.specs.ShelfOctets.{yearIn, rawYear, cardIn, slotIn, slotsIn, shelfIn, octetsOfCard, octetsOfSlot, octetsFrom, octetsOf, joinOctets, Held, Stored}
+use Rattle.shelf_octets.specs.ShelfOctets.{yearIn, rawYear, cardIn, slotIn, slotsIn, shelfIn, octetsOfCard, octetsOfSlot, asOctets, joinOctets, Held, Stored}
 use Rattle.shelf_octets.proofs.Years.{year-small, raw-natural, year-back}
 
 -- ---- how many they are
@@ -34,29 +34,33 @@ slot-length s = by-held (s .held)
     by-held true = refl
     by-held false = refl
 
+-- so many slots from one on
+abbrev octetsFrom : Shelf → ℕ → ℕ → List ℕ
+octetsFrom s slot more = inTurn (λ (n : ℕ). octetsOfSlot (slotAt s n)) slot more
+
 from-length : (s : Shelf) (slot more : ℕ) → length (octetsFrom s slot more) ≡ 41 * more
-unfolding octetsFrom
+unfolding inTurn
 from-length s slot zero = refl
 from-length s slot (suc more) =
-    length-append (octetsOfSlot (slotAt s slot)) (octetsFrom s (slot + 1) more)
-    ∙ omega (arith, slot-length (slotAt s slot), from-length s (slot + 1) more)
+    length-append (octetsOfSlot (slotAt s slot)) (octetsFrom s (suc slot) more)
+    ∙ omega (arith, slot-length (slotAt s slot), from-length s (suc slot) more)
 
-pub shelf-length : (s : Shelf) → length (octetsOf s) ≡ 2624
+pub shelf-length : (s : Shelf) → length (asOctets s) ≡ 2624
 shelf-length s = from-length s 0 64
 
 -- ---- the empty shelf
 
 empty-from : (slot more : ℕ) → slot + more ≤ 64 → octetsFrom emptyShelf slot more ≡ replicate (41 * more) 0
-unfolding octetsFrom octetsOfSlot blank
+unfolding inTurn octetsOfSlot blank
 empty-from slot zero h = refl
 empty-from slot (suc more) h =
     let here : slotAt emptyShelf slot ≡ blank = getD-replicate 64 slot blank blank (omega arith) in
     let all : 41 + 41 * more ≡ 41 * suc more = omega arith in
-    ap₂ (λ (s : Slot) (l : List ℕ). octetsOfSlot s ++ l) here (empty-from (slot + 1) more (omega arith))
+    ap₂ (λ (s : Slot) (l : List ℕ). octetsOfSlot s ++ l) here (empty-from (suc slot) more (omega arith))
     ∙ replicate-append-replicate 41 (41 * more) 0
     ∙ ap (λ (n : ℕ). replicate n 0) all
 
-pub empty-zeros : octetsOf emptyShelf ≡ replicate 2624 0
+pub empty-zeros : asOctets emptyShelf ≡ replicate 2624 0
 empty-zeros = empty-from 0 64 (omega arith)
 
 -- ---- whatever octets there are read as a shelf
@@ -180,22 +184,21 @@ slot-back s clean h = by-held (s .held) refl
     by-held false e = sym (clean e)
 
 slots-back : (s : Shelf) → Stored s → (slot more : ℕ) → slot + more ≤ 64 → slotsIn more (octetsFrom s slot more) ≡ take more (drop slot (s .slots))
-unfolding slotsIn octetsFrom
+unfolding slotsIn inTurn
 slots-back s t slot zero h = refl
 slots-back s t slot (suc more) h =
     let x = slotAt s slot in
-    let rest = octetsFrom s (slot + 1) more in
+    let rest = octetsFrom s (suc slot) more in
     let one : slotIn (take 41 (octetsOfSlot x ++ rest)) ≡ x =
     ap slotIn (take-at (octetsOfSlot x) rest 41 (slot-length x)) ∙ slot-back x (t .tidy .clean slot (omega arith)) (t .cards slot (omega arith)) in
     let others : slotsIn more (drop 41 (octetsOfSlot x ++ rest)) ≡ take more (drop (suc slot) (s .slots)) =
     ap (slotsIn more) (drop-at (octetsOfSlot x) rest 41 (slot-length x))
-    ∙ slots-back s t (slot + 1) more (omega arith)
-    ∙ ap (λ (n : ℕ). take more (drop n (s .slots))) (add-one slot) in
+    ∙ slots-back s t (suc slot) more (omega arith) in
     ap₂ (λ (y : Slot) (l : List Slot). y ∷ l) one others
     ∙ sym (ap (take (suc more)) (drop-cons (s .slots) slot blank (omega (arith, t .tidy .long))))
 
 -- a shelf is what its octets say
-pub read-back : (s : Shelf) → Stored s → shelfIn (octetsOf s) ≡ s
+pub read-back : (s : Shelf) → Stored s → shelfIn (asOctets s) ≡ s
 read-back s t = ap shelf (slots-back s t 0 64 (omega arith) ∙ take-all 64 (s .slots) (omega (arith, t .tidy .long)))
 
 -- ---- joining octets
@@ -204,17 +207,17 @@ pub join-read : (a b : List ℕ) → AllOctets a → AllOctets b → shelfIn (jo
 join-read a b p q = read-back (joinShelf (shelfIn a) (shelfIn b)) (stored-join _ _ (stored-in a p) (stored-in b q))
 
 pub join-commutes : (a b : List ℕ) → joinOctets a b ≡ joinOctets b a
-join-commutes a b = ap octetsOf (shelf-join .comm (shelfIn a) (shelfIn b))
+join-commutes a b = ap asOctets (shelf-join .comm (shelfIn a) (shelfIn b))
 
 pub join-associates : (a b c : List ℕ) → AllOctets a → AllOctets b → AllOctets c → joinOctets (joinOctets a b) c ≡ joinOctets a (joinOctets b c)
 join-associates a b c p q r =
-    ap (λ (s : Shelf). octetsOf (joinShelf s (shelfIn c))) (join-read a b p q)
-    ∙ ap octetsOf (shelf-join .assoc (shelfIn a) (shelfIn b) (shelfIn c))
-    ∙ sym (ap (λ (s : Shelf). octetsOf (joinShelf (shelfIn a) s)) (join-read b c q r))
+    ap (λ (s : Shelf). asOctets (joinShelf s (shelfIn c))) (join-read a b p q)
+    ∙ ap asOctets (shelf-join .assoc (shelfIn a) (shelfIn b) (shelfIn c))
+    ∙ sym (ap (λ (s : Shelf). asOctets (joinShelf (shelfIn a) s)) (join-read b c q r))
 
 -- the octets joined with themselves say the same shelf, and are the ones in which it is written
-pub join-idempotent : (a : List ℕ) → joinOctets a a ≡ octetsOf (shelfIn a)
-join-idempotent a = ap octetsOf (shelf-join .idem (shelfIn a))
+pub join-idempotent : (a : List ℕ) → joinOctets a a ≡ asOctets (shelfIn a)
+join-idempotent a = ap asOctets (shelf-join .idem (shelfIn a))
 
 pub join-same : (a : List ℕ) → AllOctets a → shelfIn (joinOctets a a) ≡ shelfIn a
 join-same a p = join-read a a p p ∙ shelf-join .idem (shelfIn a)

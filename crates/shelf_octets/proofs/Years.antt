@@ -11,7 +11,7 @@ use borrow.Author.Tests.{ltb-true, ltb-false, le-ltb}
 use mir.Syntax.{w32, w64}
 use mir.Val.{Fits, SFits, toZ, ofZ}
 use mir.ValLaws.{toZ-ofZ, toZ-pos}
-use Rattle.text.proofs.Sizes.{wide, wide-kept}
+use Rattle.octets.proofs.Signs.{wide, wide-kept}
 use Rattle.shelf_octets.specs.ShelfOctets.{yearIn, rawYear}
 
 -- ---- the numbers
@@ -40,14 +40,14 @@ module _ (raw : ℕ) (h : raw < 2 ^ 32) where
   pub difference-fits : SFits w64 (toZ w64 raw -ℤ toZ w64 2147483648)
   difference-fits = subst (SFits w64) (sym difference) (record { sfits = omega (arith, year-small raw h) })
 
-  kept : toZ w64 (ofZ w64 (toZ w64 raw -ℤ toZ w64 2147483648)) ≡ yearIn raw
-  kept = toZ-ofZ w64 _ difference-fits ∙ difference
+  difference-kept : toZ w64 (ofZ w64 (toZ w64 raw -ℤ toZ w64 2147483648)) ≡ yearIn raw
+  difference-kept = toZ-ofZ w64 _ difference-fits ∙ difference
 
   pub year-fits : SFits w32 (toZ w64 (ofZ w64 (toZ w64 raw -ℤ toZ w64 2147483648)))
-  year-fits = subst (SFits w32) (sym kept) (record { sfits = year-small raw h })
+  year-fits = subst (SFits w32) (sym difference-kept) (record { sfits = year-small raw h })
 
   pub year-is : toZ w32 (ofZ w32 (toZ w64 (ofZ w64 (toZ w64 raw -ℤ toZ w64 2147483648)))) ≡ yearIn raw
-  year-is = toZ-ofZ w32 _ year-fits ∙ kept
+  year-is = toZ-ofZ w32 _ year-fits ∙ difference-kept
 
 module _ (year : ℤ) (h : mag year < 2 ^ 31) where
   sum : wide year +ℤ toZ w64 2147483648 ≡ year +ℤ pos (2 ^ 31)

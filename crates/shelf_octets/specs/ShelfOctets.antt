@@ -2,7 +2,7 @@
 -- empty, and then all of it is; else 1. Octets 2-5 are the real year + 2^31, 6 to 10 month, day, hour, minute, second, 11-14 the issue,
 -- 15-41 octets 8-34 of section 4. Whatever octets there are read as a shelf, and an octet that is not there reads as 0.
 -- Assumes nothing.
-use Prim.Native.Nat.{ℕ, zero, suc, _+_, _^_, _<_}
+use Prim.Native.Nat.{ℕ, zero, suc, _^_, _<_}
 use mathlib.Core.Path.{_≡_}
 use mathlib.Core.Bool.{cond}
 use mathlib.Core.List.{List, [], _∷_, _++_}
@@ -11,6 +11,7 @@ use lib.IntN.{ℤ, pos, natAbs, _+ℤ_, _-ℤ_}
 use lib.ListN.{length, take, drop, replicate}
 use lib.Signed.{mag}
 use Rattle.octets.specs.Octets.{beAt, part, digits}
+use Rattle.lent.specs.Rows.{inTurn}
 use Rattle.card.specs.declared.Card.{Card}
 use Rattle.shelf.specs.declared.Slot.{Slot}
 use Rattle.shelf.specs.declared.Shelf.{Shelf}
@@ -61,17 +62,13 @@ octetsOfCard c =
 unfoldable pub octetsOfSlot : Slot → List ℕ
 octetsOfSlot s = cond (s .held) (1 ∷ octetsOfCard (s .card)) (replicate 41 0)
 
--- so many slots from one on
-unfoldable pub octetsFrom : Shelf → ℕ → ℕ → List ℕ
-octetsFrom s slot zero = []
-octetsFrom s slot (suc more) = octetsOfSlot (slotAt s slot) ++ octetsFrom s (slot + 1) more
-
-abbrev pub octetsOf : Shelf → List ℕ
-octetsOf s = octetsFrom s 0 64
+-- those of its 64 slots
+abbrev pub asOctets : Shelf → List ℕ
+asOctets s = inTurn (λ (n : ℕ). octetsOfSlot (slotAt s n)) 0 64
 
 -- another shelf's octets joined in
 abbrev pub joinOctets : List ℕ → List ℕ → List ℕ
-joinOctets a b = octetsOf (joinShelf (shelfIn a) (shelfIn b))
+joinOctets a b = asOctets (joinShelf (shelfIn a) (shelfIn b))
 
 -- ---- which shelves are told by their octets
 

@@ -2,8 +2,8 @@
 ghost use mathlib.Core.Path.{_≡_};
 ghost use Rattle.octets.specs.Octets.{digits};
 ghost use Rattle.shelf.specs.Shelves.{slotAt};
-ghost use Rattle.text.specs.Text.{written, append};
-ghost use Rattle.shelf_octets.specs.ShelfOctets.{yearIn, rawYear, cardIn, slotIn, shelfIn, octetsOfCard, octetsOfSlot, octetsOf};
+ghost use Rattle.lent.specs.Written.{written, append};
+ghost use Rattle.shelf_octets.specs.ShelfOctets.{yearIn, rawYear, cardIn, slotIn, shelfIn, octetsOfCard, octetsOfSlot, asOctets};
 use card::Card;
 use shelf::Shelf;
 use shelf::Slot;
@@ -68,7 +68,7 @@ fn year_in(raw: u32) -> i32
 
 // Writes the octets of a shelf at the start of a lent buffer, as far as there is room, and answers the index after them.
 pub fn write(out: &mut [u8], shelf: Shelf) -> usize
-    ensures { λ r. ⌜ written (now (out .exit)) r ≡ append (written (now (out .entry)) 0) (octetsOf shelf) ⌝ }
+    ensures { λ r. ⌜ written (now (out .exit)) r ≡ append (written (now (out .entry)) 0) (asOctets shelf) ⌝ }
 {
     let mut next: usize = 0;
     let mut i: usize = 0;
@@ -84,10 +84,10 @@ fn write_slot(out: &mut [u8], at: usize, slot: Slot) -> usize
 {
     if !slot.held {
         let zeros = [0u8; 41];
-        return text::words(out, at, &zeros);
+        return lent::octets(out, at, &zeros);
     }
     let card = slot.card;
-    let next = text::octet(out, at, 1);
+    let next = lent::octet(out, at, 1);
     write_card(out, next, card)
 }
 
@@ -96,13 +96,13 @@ fn write_card(out: &mut [u8], at: usize, card: Card) -> usize
 {
     let product = card.product;
     let a = write_number(out, at, raw_year(card.year));
-    let b = text::octet(out, a, card.month);
-    let c = text::octet(out, b, card.day);
-    let d = text::octet(out, c, card.hour);
-    let e = text::octet(out, d, card.minute);
-    let f = text::octet(out, e, card.second);
+    let b = lent::octet(out, a, card.month);
+    let c = lent::octet(out, b, card.day);
+    let d = lent::octet(out, c, card.hour);
+    let e = lent::octet(out, d, card.minute);
+    let f = lent::octet(out, e, card.second);
     let g = write_number(out, f, card.issue);
-    text::words(out, g, &product)
+    lent::octets(out, g, &product)
 }
 
 fn raw_year(year: i32) -> u32
@@ -117,8 +117,8 @@ fn write_number(out: &mut [u8], at: usize, n: u32) -> usize
 {
     let low = n % 0x100_0000;
     let lower = low % 0x1_0000;
-    let a = text::octet(out, at, (n / 0x100_0000) as u8);
-    let b = text::octet(out, a, (low / 0x1_0000) as u8);
-    let c = text::octet(out, b, (lower / 0x100) as u8);
-    text::octet(out, c, (lower % 0x100) as u8)
+    let a = lent::octet(out, at, (n / 0x100_0000) as u8);
+    let b = lent::octet(out, a, (low / 0x1_0000) as u8);
+    let c = lent::octet(out, b, (lower / 0x100) as u8);
+    lent::octet(out, c, (lower % 0x100) as u8)
 }

@@ -21,7 +21,7 @@ use Rattle.packing.specs.Refused.{unpackTable}
 use Rattle.packing.proofs.RefusalNumbers.{unpack-refuses}
 use Rattle.shelf.specs.declared.Shelf.{Shelf}
 use Rattle.shelf.specs.Shelves.{slotAt, putOf}
-use Rattle.shelf_octets.specs.ShelfOctets.{shelfIn, octetsOf}
+use Rattle.shelf_octets.specs.ShelfOctets.{shelfIn, asOctets}
 use Rattle.filing.specs.Filing.{Filing, refusedFiling, accepted, filingOf, keptIf, filedBy, filedOf}
 use Rattle.filing.specs.Refused.{filingTable}
 use Rattle.filing.proofs.RefusalNumbers.{filing-refuses}
@@ -29,10 +29,10 @@ use Rattle.queue.specs.Records.{issueFrom}
 use Rattle.queue.specs.declared.QueueFiled.{QueueFiled}
 use Rattle.queue.specs.Queues.{cutOf, recordsFiled, fromStart, queueRefusal, refusedQueue, acceptedQueue, queueFiled}
 use Rattle.report.specs.Texts.{listing}
-use Rattle.values.specs.Lent.{Done, done, over}
+use Rattle.lent.specs.Lent.{Done, done, doneBoth, over, withCount, ifRoom}
+use Rattle.lent.proofs.Answers.{room-left, room-exactly as exactly}
 use Rattle.values.proofs.RecordRead.{accepting}
-use Rattle.values.specs.Records.{withCount}
-use Rattle.skogmund.specs.Entries.{code, codeOf, coded, doneBoth, ifRoom, rowUnpacked, listingTold}
+use Rattle.skogmund.specs.Entries.{code, codeOf, coded, noRoom, rowUnpacked, listingTold}
 use Rattle.skogmund.specs.Parts.{partTold}
 use Rattle.skogmund.specs.Shelves.{isShelf, emptied, joined, keptIn, Room, fieldKept, filedField, Files, queueKept, filedQueue, slotNumbers, slotShown}
 
@@ -53,13 +53,11 @@ unpacked-exactly-when five seven row =
 
 -- ---- it is 0 exactly where there is room
 
--- what is left then
-pub room-left : {B : Type 0} (t : Bool) (after before : B) → ifRoom t after before .answer ≡ 0 → (t ≡ true) × (ifRoom t after before .lent ≡ after)
-room-left true after before e = (refl, refl)
-room-left false after before e = absurd (omega (arith, e))
+pub no-room-refuses : noRoom ≡ 0 → ⊥
+no-room-refuses e = omega (arith, e)
 
-room-exactly : {B : Type 0} {R : Type 0} (t : Bool) (after before : B) → (t ≡ true) ↔ R → (ifRoom t after before .answer ≡ 0) ↔ R
-room-exactly t after before r = ((λ e. r .0 (room-left t after before e .0)), (λ x. ap (λ (u : Bool). ifRoom u after before .answer) (r .1 x)))
+room-exactly : {B R : Type 0} (t : Bool) (after before : B) → (t ≡ true) ↔ R → (ifRoom 0 noRoom t after before .answer ≡ 0) ↔ R
+room-exactly = exactly 0 noRoom no-room-refuses
 
 both-exactly : {a b : Bool} {A B : Type 0} → (a ≡ true) ↔ A → (b ≡ true) ↔ B → ((a && b) ≡ true) ↔ (A × B)
 both-exactly {a} {b} p q = ((λ e. let x = both-hold a b e in (p .0 (x .0), q .0 (x .1))), (λ x. rw (p .1 (x .0), q .1 (x .1))))
@@ -91,7 +89,7 @@ unfolding slotShown
 shown-exactly-when s slot values = by (ltb 63 slot) refl
   where
     by : (t : Bool) → ltb 63 slot ≡ t
-        → (cond t (done (code 16 0 0) values) (ifRoom (isShelf s && leb 64 (length values)) (withCount (slotNumbers (slotAt (shelfIn s) slot)) values) values) .answer ≡ 0) ↔ ((slot < 64) × (length s ≡ 2624) × (64 ≤ length values))
+        → (cond t (done (code 16 0 0) values) (ifRoom 0 noRoom (isShelf s && leb 64 (length values)) (withCount (slotNumbers (slotAt (shelfIn s) slot)) values) values) .answer ≡ 0) ↔ ((slot < 64) × (length s ≡ 2624) × (64 ≤ length values))
     by true f = let large = ltb-true 63 slot f in ((λ e. absurd (omega (arith, e))), (λ h. absurd (omega (arith, large, h .0))))
     by false f =
         let small = ltb-false 63 slot f in
@@ -104,9 +102,9 @@ keep-exactly : (s places : List ℕ) (after : Shelf) (ns : List ℕ) → (keptIn
 unfolding keptIn
 keep-exactly s places after ns = room-exactly _ _ _ (both-exactly (shelf-exactly s) (many-exactly (length ns) places))
 
-keep-left : (s places : List ℕ) (after : Shelf) (ns : List ℕ) → keptIn s places after ns .answer ≡ 0 → keptIn s places after ns .lent .0 ≡ octetsOf after
+keep-left : (s places : List ℕ) (after : Shelf) (ns : List ℕ) → keptIn s places after ns .answer ≡ 0 → keptIn s places after ns .lent .0 ≡ asOctets after
 unfolding keptIn
-keep-left s places after ns e = ap (λ (l : List ℕ × List ℕ). l .0) (room-left (isShelf s && leb (length ns) (length places)) (octetsOf after, over places ns) (s, places) e .1)
+keep-left s places after ns e = ap (λ (l : List ℕ × List ℕ). l .0) (room-left 0 noRoom no-room-refuses (isShelf s && leb (length ns) (length places)) (asOctets after, over places ns) (s, places) e .1)
 
 module _ (s : List ℕ) (slot stored : ℕ) (s1 s3 s4 s5 s7 places : List ℕ) where
   abbrev made : Done ℕ (List ℕ × List ℕ)
@@ -126,17 +124,17 @@ module _ (s : List ℕ) (slot stored : ℕ) (s1 s3 s4 s5 s7 places : List ℕ) w
   kept-exactly true x = keep-exactly s places x (1 ∷ [])
   kept-exactly false x = keep-exactly s places x (0 ∷ [])
 
-  kept-left : (t : Bool) (x : Shelf) → fieldKept s places x (keptIf t) .answer ≡ 0 → fieldKept s places x (keptIf t) .lent .0 ≡ octetsOf x
+  kept-left : (t : Bool) (x : Shelf) → fieldKept s places x (keptIf t) .answer ≡ 0 → fieldKept s places x (keptIf t) .lent .0 ≡ asOctets x
   unfolding fieldKept
   kept-left true x e = keep-left s places x (1 ∷ []) e
   kept-left false x e = keep-left s places x (0 ∷ []) e
 
   -- the shelf that filing makes of these octets is then the one that is left
-  pub field-left : made .answer ≡ 0 → Fits × (made .lent .0 ≡ octetsOf (filedOf (shelfIn s) slot (issueFrom stored) s1 s3 s4 s5 s7 .shelf))
+  pub field-left : made .answer ≡ 0 → Fits × (made .lent .0 ≡ asOctets (filedOf (shelfIn s) slot (issueFrom stored) s1 s3 s4 s5 s7 .shelf))
   unfolding filedField fieldKept filedOf filedBy
   field-left e = by-number (ltb 4294967296 stored) refl e
     where
-      by-filing : stored ≤ 4294967296 → (f : Filing) → filing ≡ f → by f .answer ≡ 0 → Fits × (by f .lent .0 ≡ octetsOf (filedBy (shelfIn s) slot f .shelf))
+      by-filing : stored ≤ 4294967296 → (f : Filing) → filing ≡ f → by f .answer ≡ 0 → Fits × (by f .lent .0 ≡ asOctets (filedBy (shelfIn s) slot f .shelf))
       by-filing h (refusedFiling number section place) g e =
           let x = refusal number section place in
           absurd (listed-code filingTable x refl (filing-refuses (shelfIn s) slot (issueFrom stored) s1 s3 s4 s5 s7 x (ap (λ (f : Filing). filedBy (shelfIn s) slot f .answer) g)) e)
@@ -145,7 +143,7 @@ module _ (s : List ℕ) (slot stored : ℕ) (s1 s3 s4 s5 s7 places : List ℕ) w
           ((h, (card, g), kept-exactly (put .changed) (put .shelf) .0 e), kept-left (put .changed) (put .shelf) e)
 
       by-number : (t : Bool) → ltb 4294967296 stored ≡ t → cond t (doneBoth (code 19 0 0) s places) (by filing) .answer ≡ 0
-          → Fits × (cond t (doneBoth (code 19 0 0) s places) (by filing) .lent .0 ≡ octetsOf (filedBy (shelfIn s) slot filing .shelf))
+          → Fits × (cond t (doneBoth (code 19 0 0) s places) (by filing) .lent .0 ≡ asOctets (filedBy (shelfIn s) slot filing .shelf))
       by-number true h e = absurd (omega (arith, e))
       by-number false h e = by-filing (ltb-false _ _ h) filing refl e
 
@@ -163,12 +161,12 @@ module _ (s : List ℕ) (slot stored : ℕ) (s1 s3 s4 s5 s7 places : List ℕ) w
 abbrev queued : List ℕ → List ℕ → Bool → QueueFiled
 queued s q t = cond t (acceptedQueue (recordsFiled (fromStart (shelfIn s)) (cutOf q .records))) (refusedQueue (shelfIn s) (queueRefusal q))
 
-pub queue-left : (s q places : List ℕ) → filedQueue s q places .answer ≡ 0 → (queueRefusal q ≡ 0) × Room s places 3 × (filedQueue s q places .lent .0 ≡ octetsOf (queueFiled (shelfIn s) q .shelf))
+pub queue-left : (s q places : List ℕ) → filedQueue s q places .answer ≡ 0 → (queueRefusal q ≡ 0) × Room s places 3 × (filedQueue s q places .lent .0 ≡ asOctets (queueFiled (shelfIn s) q .shelf))
 unfolding filedQueue queueKept queueFiled
 queue-left s q places e = by (eqb (queueRefusal q) 0) refl e
   where
     by : (t : Bool) → eqb (queueRefusal q) 0 ≡ t → queueKept s places (queued s q t .shelf) (queued s q t .answer) .answer ≡ 0
-        → (queueRefusal q ≡ 0) × Room s places 3 × (queueKept s places (queued s q t .shelf) (queued s q t .answer) .lent .0 ≡ octetsOf (queued s q t .shelf))
+        → (queueRefusal q ≡ 0) × Room s places 3 × (queueKept s places (queued s q t .shelf) (queued s q t .answer) .lent .0 ≡ asOctets (queued s q t .shelf))
     by true h e = (eqb-true _ _ h, keep-exactly s places _ _ .0 e, keep-left s places _ _ e)
     by false h e = absurd (eqb-false (queueRefusal q) 0 h (omega (arith, e)))
 

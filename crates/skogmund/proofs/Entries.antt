@@ -2,8 +2,8 @@
 -- Assumes nothing.
 use mathlib.Core.Path.{_≡_}
 use denote.Ref.{now}
-use Rattle.values.specs.Lent.{done}
-use Rattle.skogmund.specs.Entries.{recordTold, rowUnpacked, doneBoth, listingTold}
+use Rattle.lent.specs.Lent.{done, doneBoth}
+use Rattle.skogmund.specs.Entries.{recordTold, rowUnpacked, listingTold}
 use Rattle.skogmund.specs.Shelves.{emptied, joined, filedField, filedQueue, slotShown}
 use Rattle.skogmund.specs.Parts.{partTold}
 use Rattle.entry.specs.Entry.{Entry}

@@ -10,8 +10,8 @@ use lib.ListN.{length}
 use Rattle.layout.specs.Fields.{Value}
 use Rattle.layout.specs.Outcomes.{read}
 use Rattle.layout.specs.declared.Refusal.{Refusal}
-use Rattle.values.specs.Lent.{Done}
-use Rattle.values.specs.Records.{numbersIn, withCount, sectionOutcome, AcceptedWithRoom}
+use Rattle.lent.specs.Lent.{Done, withCount}
+use Rattle.values.specs.Records.{numbersIn, sectionOutcome, AcceptedWithRoom}
 use Rattle.values.proofs.RecordRead.{none-refused, record-put}
 use Rattle.skogmund.specs.Entries.{codeOf, recordTold}
 

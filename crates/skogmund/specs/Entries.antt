@@ -2,17 +2,16 @@
 -- answer and of what was lent as it is afterwards, is what a definition makes of what was given.
 -- Assumes nothing.
 use Prim.Native.Nat.{ℕ, _+_, _*_, _^_}
-use mathlib.Core.Path.{_≡_}
-use mathlib.Core.Bool.{Bool, cond, _&&_}
+use mathlib.Core.Bool.{Bool, _&&_}
 use mathlib.Core.List.{List, [], _∷_}
 use lib.Dec.{ltb, leb}
 use lib.IntN.{ℤ}
 use lib.ListN.{length}
+use Rattle.lent.specs.Lent.{Done, done, over, ifRoom}
 use Rattle.layout.specs.Outcomes.{Outcome, refusalOf}
 use Rattle.layout.specs.declared.Refusal.{Refusal}
 use Rattle.packing.specs.Unpacking.{unpackOutcome, rowAfter}
 use Rattle.report.specs.Texts.{listing}
-use Rattle.values.specs.Lent.{Done, done, over}
 use Rattle.values.specs.Records.{sectionOutcome, intoRow}
 
 -- number x 2^40 + section x 2^32 + place
@@ -29,14 +28,6 @@ coded o = codeOf (refusalOf o)
 -- 18: a buffer of another length, or one with too few places
 abbrev pub noRoom : ℕ
 noRoom = code 18 0 0
-
--- the answer and two buffers
-abbrev pub doneBoth : ℕ → List ℕ → List ℕ → Done ℕ (List ℕ × List ℕ)
-doneBoth answer one other = done answer (one, other)
-
--- 0 and what is written where there is room, and else 18 and what was there before
-abbrev pub ifRoom : {B : Type 0} → Bool → B → B → Done ℕ B
-ifRoom room after before = cond room (done 0 after) (done noRoom before)
 
 -- ---- sections
 
@@ -57,10 +48,4 @@ abbrev pub fits : List ℕ → List ℕ → List ℕ → Bool
 fits q text places = leb (length (listing q)) (length text) && ltb 0 (length places)
 
 unfoldable pub listingTold : List ℕ → List ℕ → List ℕ → Done ℕ (List ℕ × List ℕ)
-listingTold q text places = ifRoom (fits q text places) (over text (listing q), over places (length (listing q) ∷ [])) (text, places)
-
--- ---- for the demands
-
--- a refusal leaves what was lent as it was
-abbrev pub Untouched : {B : Type 0} → B → Done ℕ B → Type 0
-Untouched before x = (x .answer ≡ 0 → ⊥) → x .lent ≡ before
+listingTold q text places = ifRoom 0 noRoom (fits q text places) (over text (listing q), over places (length (listing q) ∷ [])) (text, places)

@@ -5,12 +5,12 @@ use mathlib.Core.Bool.{cond}
 use mathlib.Core.List.{List, [], _∷_}
 use lib.Dec.{eqb, leb}
 use lib.ListN.{length}
+use Rattle.lent.specs.Lent.{Done, over, ifRoom}
 use Rattle.layout.specs.Spans.{nowhere}
 use Rattle.layout.specs.declared.Span.{Span}
 use Rattle.grid.specs.Views.{listSpan}
 use Rattle.product.specs.Views.{rangeSpan, memberSpan, coordinateSpan}
-use Rattle.values.specs.Lent.{Done, over}
-use Rattle.skogmund.specs.Entries.{ifRoom}
+use Rattle.skogmund.specs.Entries.{noRoom}
 
 -- 1: the list of section 3; 2, 3 and 4: the k-th time range (from 0), the members and the coordinates of section 4; others are nowhere
 unfoldable pub partSpan : ℕ → List ℕ → ℕ → Span
@@ -29,4 +29,4 @@ firstOctet x = cond (eqb (x .length) 0) 0 (x .before + 1)
 unfoldable pub partTold : ℕ → List ℕ → ℕ → List ℕ → Done ℕ (List ℕ)
 partTold part s k places =
     let x = partSpan part s k in
-    ifRoom (leb 2 (length places)) (over places (firstOctet x ∷ x .length ∷ [])) places
+    ifRoom 0 noRoom (leb 2 (length places)) (over places (firstOctet x ∷ x .length ∷ [])) places

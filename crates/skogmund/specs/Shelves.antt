@@ -8,11 +8,12 @@ use lib.Dec.{eqb, ltb, leb}
 use lib.IntN.{ℤ, pos}
 use lib.ListN.{length, replicate}
 use Rattle.octets.specs.Octets.{part}
+use Rattle.lent.specs.Lent.{Done, done, doneBoth, over, withCount, ifRoom}
 use Rattle.card.specs.declared.Card.{Card}
 use Rattle.shelf.specs.declared.Slot.{Slot}
 use Rattle.shelf.specs.declared.Shelf.{Shelf}
 use Rattle.shelf.specs.Shelves.{slotAt}
-use Rattle.shelf_octets.specs.ShelfOctets.{shelfIn, octetsOf, joinOctets}
+use Rattle.shelf_octets.specs.ShelfOctets.{shelfIn, asOctets, joinOctets}
 use Rattle.filing.specs.declared.Answer.{Answer}
 use Rattle.filing.specs.declared.Answer.the-variants.{Kept, Passed, Refused as refusedField}
 use Rattle.filing.specs.Filing.{accepted, filingOf, filedOf}
@@ -20,9 +21,7 @@ use Rattle.queue.specs.Records.{issueFrom}
 use Rattle.queue.specs.declared.QueueAnswer.{QueueAnswer}
 use Rattle.queue.specs.declared.QueueAnswer.the-variants.{Filed as filedAll, Refused as refusedAll}
 use Rattle.queue.specs.Queues.{queueFiled}
-use Rattle.values.specs.Lent.{Done, done, over}
-use Rattle.values.specs.Records.{withCount}
-use Rattle.skogmund.specs.Entries.{code, codeOf, doneBoth, ifRoom}
+use Rattle.skogmund.specs.Entries.{code, codeOf, noRoom}
 
 -- these are as many octets as a shelf has
 abbrev pub isShelf : List ℕ → Bool
@@ -31,16 +30,16 @@ isShelf s = eqb (length s) 2624
 -- ---- a shelf alone
 
 unfoldable pub emptied : List ℕ → Done ℕ (List ℕ)
-emptied s = ifRoom (isShelf s) (replicate 2624 0) s
+emptied s = ifRoom 0 noRoom (isShelf s) (replicate 2624 0) s
 
 unfoldable pub joined : List ℕ → List ℕ → Done ℕ (List ℕ)
-joined s other = ifRoom (isShelf s && isShelf other) (joinOctets s other) s
+joined s other = ifRoom 0 noRoom (isShelf s && isShelf other) (joinOctets s other) s
 
 -- ---- a shelf and numbers
 
 -- the shelf that is made of these octets and so many numbers, if there is room for both
 unfoldable pub keptIn : List ℕ → List ℕ → Shelf → List ℕ → Done ℕ (List ℕ × List ℕ)
-keptIn s places after ns = ifRoom (isShelf s && leb (length ns) (length places)) (octetsOf after, over places ns) (s, places)
+keptIn s places after ns = ifRoom 0 noRoom (isShelf s && leb (length ns) (length places)) (asOctets after, over places ns) (s, places)
 
 -- a field is refused, or whether its slot changed is kept with the shelf
 unfoldable pub fieldKept : List ℕ → List ℕ → Shelf → Answer → Done ℕ (List ℕ × List ℕ)
@@ -86,7 +85,7 @@ slotNumbers x = cond (x .held) (cardValues (x .card)) []
 unfoldable pub slotShown : List ℕ → ℕ → List ℤ → Done ℕ (List ℤ)
 slotShown s slot values =
     cond (ltb 63 slot) (done (code 16 0 0) values)
-    (ifRoom (isShelf s && leb 64 (length values)) (withCount (slotNumbers (slotAt (shelfIn s) slot)) values) values)
+    (ifRoom 0 noRoom (isShelf s && leb 64 (length values)) (withCount (slotNumbers (slotAt (shelfIn s) slot)) values) values)
 
 -- ---- for the demands: when something is filed
 

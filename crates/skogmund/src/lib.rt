@@ -2,9 +2,9 @@
 // number: 0 for none, else number x 2^40 + section x 2^32 + place.
 ghost use mathlib.Core.Path.{_≡_};
 ghost use Prim.Native.Nat.{_≤_};
+ghost use Rattle.lent.specs.Lent.{done, doneBoth};
 ghost use Rattle.layout.specs.Refusals.{lastPlace};
-ghost use Rattle.values.specs.Lent.{done};
-ghost use Rattle.skogmund.specs.Entries.{codeOf, doneBoth, rowUnpacked, recordTold, listingTold};
+ghost use Rattle.skogmund.specs.Entries.{codeOf, rowUnpacked, recordTold, listingTold};
 use layout::Refusal;
 use packing::Unpacked;
 
@@ -51,10 +51,10 @@ pub extern "C" fn skogmund_list(queue: &[u8], text: &mut [u8], length: &mut [u64
     if text.len() < end {
         return NO_ROOM;
     }
-    if length.len() == 0 {
+    let ends = [end as u64];
+    if !lent::numbers(length, &ends) {
         return NO_ROOM;
     }
-    text::words(text, 0, &room[..end]);
-    length[0] = end as u64;
+    lent::octets(text, 0, &room[..end]);
     0
 }

@@ -1,7 +1,7 @@
 // Where a part of a section stands: C cannot be handed a view of it.
 ghost use mathlib.Core.Path.{_≡_};
 ghost use Prim.Native.Nat.{_^_, _<_};
-ghost use Rattle.values.specs.Lent.{done};
+ghost use Rattle.lent.specs.Lent.{done};
 ghost use Rattle.skogmund.specs.Parts.{partSpan, firstOctet, partTold};
 use layout::Span;
 
@@ -10,12 +10,11 @@ use layout::Span;
 pub extern "C" fn skogmund_part(part: u8, s: &[u8], k: u64, span: &mut [u64]) -> u64
     ensures { λ r. ⌜ done r (now (span .exit)) ≡ partTold part (now (s .entry)) k (now (span .entry)) ⌝ }
 {
-    if span.len() < 2 {
+    let found = span_of(part, s, k as usize);
+    let numbers = [first_octet(found), found.length as u64];
+    if !lent::numbers(span, &numbers) {
         return crate::NO_ROOM;
     }
-    let found = span_of(part, s, k as usize);
-    span[0] = first_octet(found);
-    span[1] = found.length as u64;
     0
 }
 

@@ -1,18 +1,16 @@
 // Shelves for C and Rust: 2,624 octets that the caller keeps. Any octets are a shelf, so that nothing is asked of them but their number.
 ghost use mathlib.Core.Path.{_≡_};
-ghost use mathlib.Core.List.{[], _∷_, _++_, map};
+ghost use mathlib.Core.List.{map};
 ghost use Prim.Native.Nat.{_≤_};
 ghost use lib.IntN.{pos};
-ghost use lib.ListN.{length, take, drop};
+ghost use lib.ListN.{length};
+ghost use lib.Seq.{sets};
 ghost use Rattle.octets.specs.Octets.{part};
 ghost use Rattle.queue.specs.Records.{issueFrom};
-ghost use Rattle.values.specs.Lent.{done};
-ghost use Rattle.values.specs.Records.{withCount};
-ghost use Rattle.skogmund.specs.Entries.{doneBoth};
+ghost use Rattle.lent.specs.Lent.{done, doneBoth, withCount};
 ghost use Rattle.skogmund.specs.Shelves.{emptied, joined, keptIn, filedField, filedQueue, slotNumbers, slotShown};
 use filing::Answer;
 use filing::Issue;
-use queue::Counts;
 use queue::QueueAnswer;
 use shelf::Shelf;
 use shelf::Slot;
@@ -86,8 +84,8 @@ pub extern "C" fn skogmund_file<'s, 'a, 'k>(
     let after = done.shelf;
     let answer = done.answer;
     match answer {
-        Answer::Kept => keep_flag(shelf, kept, after, 1),
-        Answer::Passed => keep_flag(shelf, kept, after, 0),
+        Answer::Kept => keep(shelf, kept, after, &[1]),
+        Answer::Passed => keep(shelf, kept, after, &[0]),
         Answer::Refused(x) => crate::code(x),
     }
 }
@@ -102,17 +100,17 @@ fn issue_from(stored: u64) -> Issue
     Issue::Named((stored - 1) as u32)
 }
 
-fn keep_flag(shelf: &mut [u8], kept: &mut [u64], after: Shelf, flag: u64) -> u64
-    ensures { λ r. ⌜ doneBoth r (now (shelf .exit)) (now (kept .exit)) ≡ keptIn (now (shelf .entry)) (now (kept .entry)) after (flag ∷ []) ⌝ }
+// The shelf, and numbers in the first places, if there is room for both.
+fn keep(shelf: &mut [u8], places: &mut [u64], after: Shelf, numbers: &[u64]) -> u64
+    ensures { λ r. ⌜ doneBoth r (now (shelf .exit)) (now (places .exit)) ≡ keptIn (now (shelf .entry)) (now (places .entry)) after (now (numbers .entry)) ⌝ }
 {
     if shelf.len() != SHELF {
         return crate::NO_ROOM;
     }
-    if kept.len() == 0 {
+    if !lent::numbers(places, numbers) {
         return crate::NO_ROOM;
     }
     shelf_octets::write(shelf, after);
-    kept[0] = flag;
     0
 }
 
@@ -125,25 +123,14 @@ pub extern "C" fn skogmund_file_queue(shelf: &mut [u8], queue: &[u8], counts: &m
     let after = done.shelf;
     let answer = done.answer;
     match answer {
-        QueueAnswer::Filed(n) => keep_counts(shelf, counts, after, n),
+        QueueAnswer::Filed(n) => keep(
+            shelf,
+            counts,
+            after,
+            &[n.kept as u64, n.passed as u64, n.refused as u64],
+        ),
         QueueAnswer::Refused(x) => crate::code(x),
     }
-}
-
-fn keep_counts(shelf: &mut [u8], counts: &mut [u64], after: Shelf, n: Counts) -> u64
-    ensures { λ r. ⌜ doneBoth r (now (shelf .exit)) (now (counts .exit)) ≡ keptIn (now (shelf .entry)) (now (counts .entry)) after (n .kept ∷ n .passed ∷ n .refused ∷ []) ⌝ }
-{
-    if shelf.len() != SHELF {
-        return crate::NO_ROOM;
-    }
-    if counts.len() < 3 {
-        return crate::NO_ROOM;
-    }
-    shelf_octets::write(shelf, after);
-    counts[0] = n.kept as u64;
-    counts[1] = n.passed as u64;
-    counts[2] = n.refused as u64;
-    0
 }
 
 // What a slot holds: how many values follow, and they.
@@ -188,7 +175,7 @@ fn show_slot(values: &mut [i64], slot: Slot)
 
 fn show_product(values: &mut [i64], product: [u8; 27])
     requires { ⌜ 64 ≤ length (now values) ⌝ }
-    ensures { λ _. ⌜ now (values .exit) ≡ take 8 (now (values .entry)) ++ (map pos (part product 1 27) ++ drop 35 (now (values .entry))) ⌝ }
+    ensures { λ _. ⌜ now (values .exit) ≡ sets (now (values .entry)) 8 (map pos (part product 1 27)) ⌝ }
 {
     let mut i: usize = 0;
     while i < 27 {

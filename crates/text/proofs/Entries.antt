@@ -3,15 +3,10 @@
 use mathlib.Core.Path.{_≡_}
 use mathlib.Core.List.{[], _∷_, _++_}
 use denote.Ref.{now}
-use Rattle.text.specs.Text.{written, append, decimal, wholeNumber}
+use Rattle.lent.specs.Written.{written, append}
+use Rattle.text.specs.Text.{decimal, wholeNumber}
 use Rattle.entry.specs.Entry.{Entry}
 use Rattle.text.proofs as code
-
-pub octet : Entry code.octet.Reads.Asked code.octet.Reads.Learnt code.octet.Statement.statement (λ given r later. written (now (later .0)) r ≡ append (written (now (given .0)) (given .1 .0)) (given .1 .1 .0 ∷ []))
-octet = record { takes = λ lent given. tt; ends = code.octet.Met.met; tells = λ lent given r later e. e }
-
-pub words : Entry code.words.Reads.Asked code.words.Reads.Learnt code.words.Statement.statement (λ given r later. written (now (later .0)) r ≡ append (written (now (given .0)) (given .1 .0)) (now (given .1 .1 .0)))
-words = record { takes = λ lent given. tt; ends = code.words.Met.met; tells = λ lent given r later e. e }
 
 pub number : Entry code.number.Reads.Asked code.number.Reads.Learnt code.number.Statement.statement (λ given r later. written (now (later .0)) r ≡ append (written (now (given .0)) (given .1 .0)) (decimal (given .1 .1 .0)))
 number = record { takes = λ lent given. tt; ends = code.number.Met.met; tells = λ lent given r later e. e }

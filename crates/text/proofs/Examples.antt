@@ -3,7 +3,7 @@
 use mathlib.Core.Path.{_≡_, refl}
 use mathlib.Core.List.{[], _∷_}
 use lib.IntN.{negsuc}
-use Rattle.text.specs.Text.{written, one, append, digitsIn, decimal, wholeNumber}
+use Rattle.text.specs.Text.{digitsIn, decimal, wholeNumber}
 
 zero-is-0 : decimal 0 ≡ 48 ∷ []
 unfolding digitsIn
@@ -17,8 +17,3 @@ no-leading-zeros = refl
 sign-first : wholeNumber (negsuc 11) ≡ 45 ∷ 49 ∷ 50 ∷ []
 unfolding digitsIn
 sign-first = refl
-
--- three octets from index 1 on, where there is room for two
-as-far-as-there-is-room : append (written (0 ∷ 0 ∷ 0 ∷ []) 1) (7 ∷ 8 ∷ 9 ∷ []) ≡ written (0 ∷ 7 ∷ 8 ∷ []) 3
-unfolding append one
-as-far-as-there-is-room = refl

@@ -1,6 +1,6 @@
 -- The size of a signed number of 32 bits, as the machine makes it in 64.
 -- Assumes nothing.
-use mathlib.Core.Path.{_≡_, refl, ap, sym, _∙_}
+use mathlib.Core.Path.{_≡_, refl, ap, sym}
 use mathlib.Core.Bool.{true, false}
 use mathlib.Core.List.{_∷_}
 use Prim.Native.Nat.{ℕ, zero, suc, _^_, _<_}
@@ -9,21 +9,10 @@ use lib.Dec.{T}
 use borrow.Author.Tests.{ltb-true}
 use lib.IntN.{ℤ, pos, negsuc, negℤ, natAbs, _-ℤ_, +ℤ-idl}
 use lib.Signed.{mag, ltZ, nonNeg}
-use mir.Syntax.{w32, w64}
+use mir.Syntax.{w64}
 use mir.Val.{Fits, SFits, toZ, ofZ}
 use mir.ValLaws.{toZ-ofZ}
 use Rattle.text.specs.Text.{decimal, wholeNumber}
-
--- the number in 64 bits, as it is read back
-abbrev pub wide : ℤ → ℤ
-wide z = toZ w64 (ofZ w64 (toZ w32 (ofZ w32 z)))
-
-module _ (z : ℤ) (h : mag z < 2 ^ 31) where
-  pub wide-kept : wide z ≡ z
-  wide-kept = ap (λ (x : ℤ). toZ w64 (ofZ w64 x)) (toZ-ofZ w32 z (record { sfits = h })) ∙ toZ-ofZ w64 z (record { sfits = omega arith })
-
-  pub wide-fits : SFits w64 (toZ w32 (ofZ w32 z))
-  wide-fits = rw (toZ-ofZ w32 z (record { sfits = h })) (record { sfits = omega arith })
 
 pub negated-fits : (z : ℤ) → mag z < 2 ^ 31 → SFits w64 (pos 0 -ℤ z)
 negated-fits z h = rw (+ℤ-idl (negℤ z)) (by-sign z h)

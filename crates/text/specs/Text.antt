@@ -1,4 +1,4 @@
--- Text written into a lent buffer, as far as there is room, and numbers as decimal digits.
+-- The octets of words, and numbers as decimal digits.
 -- Assumes nothing.
 use Prim.Native.Nat.{ℕ, zero, suc, _+_, _/_, _%_}
 use mathlib.Core.Bool.{cond}
@@ -7,28 +7,6 @@ use Prim.Native.String.{String, [] as ε, _∷_ as _⊲_}
 use mathlib.Core.List.{List, [], _∷_, _++_}
 use lib.Dec.{ltb}
 use lib.IntN.{ℤ, pos, negsuc}
-use lib.ListN.{length, drop, set}
-
--- a lent buffer, and after how many of its octets the text stands that is written so far
-pub record Written : Type 0 where
-  pub octets : List ℕ
-  pub at : ℕ
-
-abbrev pub written : List ℕ → ℕ → Written
-written octets at = record { octets = octets; at = at }
-
--- one octet more, if there is room
-unfoldable pub one : Written → ℕ → Written
-one x c = cond (ltb (x .at) (length (x .octets))) (written (set (x .octets) (x .at) c) (x .at + 1)) x
-
--- octet after octet, each if there is room
-unfoldable pub append : Written → List ℕ → Written
-append x [] = x
-append x (c ∷ t) = append (one x c) t
-
--- a text at the start of a buffer that has room for it, and behind it what was there before
-unfoldable pub startsWith : List ℕ → List ℕ → Written
-startsWith out t = written (t ++ drop (length t) out) (length t)
 
 -- the octets of words in ASCII
 abbrev pub ascii : String → List ℕ

@@ -2,7 +2,7 @@
 -- Assumes nothing.
 use mathlib.Core.Path.{_≡_}
 use denote.Ref.{now}
-use Rattle.values.specs.Lent.{done}
+use Rattle.lent.specs.Lent.{done}
 use Rattle.values.specs.Records.{sectionOutcome, intoRow}
 use Rattle.entry.specs.Entry.{Entry}
 use Rattle.values.proofs as code

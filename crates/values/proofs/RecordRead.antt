@@ -6,11 +6,13 @@ use mathlib.Core.Path.{_≡_, refl, subst⁻¹}
 use mathlib.Core.Logic.{_⊎_, inl, inr}
 use mathlib.Core.Bool.{Bool, true, false, cond}
 use mathlib.Core.List.{List, [], _∷_}
-use lib.Dec.{eqb, ltb}
+use lib.Dec.{eqb, leb}
 use lib.IntN.{ℤ}
 use lib.ListN.{length}
-use borrow.Author.Tests.{eq-eqb, ne-eqb, eqb-true, eqb-false, le-ltb, ltb-false}
+use borrow.Author.Tests.{eq-eqb, ne-eqb, eqb-true, eqb-false, le-leb, leb-true}
 use Rattle.octets.specs.Octets.{beAt}
+use Rattle.lent.specs.Lent.{done, withCount, ifRoom, Untouched}
+use Rattle.lent.proofs.Answers.{room-leaves}
 use Rattle.layout.specs.Fields.{Value, plain}
 use Rattle.layout.specs.Outcomes.{Outcome, refused, read, noRefusal, refusal, refusalOf}
 use Rattle.layout.specs.declared.Refusal.{Refusal}
@@ -29,9 +31,8 @@ use Rattle.product.proofs.RefusalNumbers.{refuses₄}
 use Rattle.packing.specs.Section5.{outcome₅}
 use Rattle.packing.specs.Refused.{table₅}
 use Rattle.packing.proofs.RefusalNumbers.{refuses₅}
-use Rattle.values.specs.Lent.{done}
 use Rattle.values.specs.Refused.{readTable}
-use Rattle.values.specs.Records.{numbersIn, withCount, outcome₇alone, sectionOutcome, intoRow, AcceptedWithRoom}
+use Rattle.values.specs.Records.{numbersIn, outcome₇alone, sectionOutcome, intoRow, AcceptedWithRoom}
 
 -- ---- a section's own refusals
 
@@ -92,13 +93,13 @@ read-into-refuses section s row =
     own (λ n o. (intoRow o row .answer ≡ noRefusal) ⊎ Listed (readTable n) (intoRow o row .answer)) by (λ n l. inr l) section s
   where
     by-room : (n : ℕ) → oneOf (numbersOf (readTable n) 0) 18 ≡ true → (t : Bool) (row′ : List ℤ)
-        → let x = cond t (done (refusal 18 0 0) row) (done noRefusal row′) .answer in (x ≡ noRefusal) ⊎ Listed (readTable n) x
-    by-room n e true row′ = inr (placeless (readTable n) 18 0 e refl)
-    by-room n e false row′ = inl refl
+        → let x = ifRoom noRefusal (refusal 18 0 0) t row′ row .answer in (x ≡ noRefusal) ⊎ Listed (readTable n) x
+    by-room n e true row′ = inl refl
+    by-room n e false row′ = inr (placeless (readTable n) 18 0 e refl)
 
     by : (n : ℕ) (o : Outcome) → Refuses (readTable n) o → oneOf (numbersOf (readTable n) 0) 18 ≡ true → (intoRow o row .answer ≡ noRefusal) ⊎ Listed (readTable n) (intoRow o row .answer)
     by n (refused number section′ place) r e = inr r
-    by n (read vs) r e = by-room n e (ltb (length row) 64) _
+    by n (read vs) r e = by-room n e (leb 64 (length row)) _
 
 pub within : (section : ℕ) (s : List ℕ) (row : List ℤ) → intoRow (sectionOutcome section s) row .answer .place ≤ lastPlace
 within section s row = by (read-into-refuses section s row)
@@ -108,24 +109,20 @@ within section s row = by (read-into-refuses section s row)
     by (inr l) = l .placed .within
 
 -- a refusal leaves the row
-pub row-stays : (o : Outcome) (row : List ℤ) → (intoRow o row .answer ≡ noRefusal → ⊥) → intoRow o row .lent ≡ row
+pub row-stays : (o : Outcome) (row : List ℤ) → Untouched noRefusal row (intoRow o row)
 unfolding intoRow
 row-stays (refused number section place) row h = refl
-row-stays (read vs) row h = by (ltb (length row) 64) _ h
-  where
-    by : (t : Bool) (row′ : List ℤ) → (cond t (done (refusal 18 0 0) row) (done noRefusal row′) .answer ≡ noRefusal → ⊥) → cond t (done (refusal 18 0 0) row) (done noRefusal row′) .lent ≡ row
-    by true row′ h = refl
-    by false row′ h = absurd (h refl)
+row-stays (read vs) row h = room-leaves noRefusal (refusal 18 0 0) (leb 64 (length row)) _ row h
 
 -- nor is it 18's
 none-by : (o : Outcome) (row : List ℤ) → Proper o → intoRow o row .answer .number ≡ 0 → ((vs : List Value) × (o ≡ read vs)) × (64 ≤ length row)
 unfolding intoRow
 none-by (refused number section place) row p e = absurd (p .0 e)
-none-by (read vs) row p e = by (ltb (length row) 64) refl _ e
+none-by (read vs) row p e = by (leb 64 (length row)) refl _ e
   where
-    by : (t : Bool) → ltb (length row) 64 ≡ t → (row′ : List ℤ) → cond t (done (refusal 18 0 0) row) (done noRefusal row′) .answer .number ≡ 0 → ((us : List Value) × (read vs ≡ read us)) × (64 ≤ length row)
-    by true h row′ e = absurd (omega (arith, e))
-    by false h row′ e = ((vs, refl), ltb-false _ _ h)
+    by : (t : Bool) → leb 64 (length row) ≡ t → (row′ : List ℤ) → ifRoom noRefusal (refusal 18 0 0) t row′ row .answer .number ≡ 0 → ((us : List Value) × (read vs ≡ read us)) × (64 ≤ length row)
+    by true h row′ e = ((vs, refl), leb-true _ _ h)
+    by false h row′ e = absurd (omega (arith, e))
 
 pub none-refused : (section : ℕ) (s : List ℕ) (row : List ℤ) → intoRow (sectionOutcome section s) row .answer .number ≡ 0 → AcceptedWithRoom section s row
 none-refused section s row e = none-by (sectionOutcome section s) row (all-proper section s) e
@@ -133,4 +130,4 @@ none-refused section s row e = none-by (sectionOutcome section s) row (all-prope
 -- the record of an accepted section stands in the row
 pub record-put : (o : Outcome) (row : List ℤ) (vs : List Value) → o ≡ read vs → 64 ≤ length row → intoRow o row ≡ done noRefusal (withCount (numbersIn vs) row)
 unfolding intoRow
-record-put o row vs e h = rw (e, le-ltb _ _ h)
+record-put o row vs e h = rw (e, le-leb 64 _ h)

@@ -34,7 +34,8 @@ use Rattle.product.specs.declared.templates.Template.the-variants.{NotListed, L
 use Rattle.product.proofs.AcceptedExactlyWhen.{accepted-follows as follows₄}
 use Rattle.packing.specs.Section5.{fields₅, outcome₅}
 use Rattle.packing.proofs.AcceptedExactlyWhen.{accepted-follows₅}
-use Rattle.values.specs.Records.{inRow, numbersIn, withCount, PutsRecord, outcome₇alone}
+use Rattle.lent.specs.Lent.{withCount}
+use Rattle.values.specs.Records.{inRow, numbersIn, PutsRecord, outcome₇alone}
 use Rattle.values.specs.Letters.{kindOf, numbersBy}
 use Rattle.values.proofs.Words.{spelt, spelt-numbers}
 

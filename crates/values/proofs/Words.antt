@@ -8,8 +8,7 @@ use mathlib.Core.Bool.{Bool, true, false, cond, _&&_, true≢false}
 use mathlib.Core.List.{List, [], _∷_, _++_}
 use lib.Dec.{eqb}
 use lib.IntN.{ℤ, pos}
-use lib.ListN.{length, drop, set}
-use lib.Seq.{sets, sets-eq}
+use lib.ListN.{length}
 use borrow.Author.Tests.{eqb-true}
 use mir.Syntax.{w64}
 use mir.Val.{toZ}
@@ -18,7 +17,7 @@ use Rattle.octets.specs.Octets.{beAt, allOnes}
 use Rattle.layout.specs.Fields.{none, missing, is, which, Meaning, unsigned, signed, orMissing, means, Field, held, said, shown, placed, valuesOf}
 use Rattle.layout.proofs.Outcomes.{either}
 use Rattle.layout.proofs.Ranges.{both-hold}
-use Rattle.values.specs.Records.{inRow, numbersIn, withCount}
+use Rattle.values.specs.Records.{inRow, numbersIn}
 use Rattle.values.specs.Letters.{Kind, kindOf, numberOf, numbersBy}
 
 pub octets-small : (letter : ℕ) → kindOf letter .octets ≤ 4
@@ -113,17 +112,3 @@ pub as-many : (ls : List ℕ) (at : ℕ) (s : List ℕ) → length (numbersBy ls
 unfolding numbersBy
 as-many [] at s = refl
 as-many (l ∷ ls) at s = ap suc (as-many ls (at + kindOf l .octets) s)
-
--- the count goes before the numbers
-pub count-first : (ns row : List ℤ) → 1 + length ns ≤ length row → set (sets row 1 ns) 0 (pos (length ns)) ≡ withCount ns row
-unfolding withCount
-count-first ns [] h = absurd (omega arith)
-count-first ns (z ∷ row) h =
-    let next : 1 + length ns ≡ suc (length ns) = omega arith in
-    ap (λ (l : List ℤ). set l 0 (pos (length ns))) (sets-eq ns (z ∷ row) 1 h)
-    ∙ ap (λ (k : ℕ). pos (length ns) ∷ (ns ++ drop k (z ∷ row))) next
-
--- one number more behind them
-pub one-more : (ns row : List ℤ) (i : ℕ) (z : ℤ) → set (sets row i ns) (i + length ns) z ≡ sets row i (ns ++ (z ∷ []))
-one-more [] row i z = ap (λ (k : ℕ). set row k z) (add-zero i)
-one-more (n ∷ ns) row i z = ap (λ (k : ℕ). set (sets (set row i n) (suc i) ns) k z) (omega arith) ∙ one-more ns (set row i n) (suc i) z

@@ -4,10 +4,11 @@ use Prim.Native.Nat.{ℕ, _≤_}
 use mathlib.Core.Path.{_≡_}
 use mathlib.Core.List.{List, [], _∷_, _++_}
 use mathlib.Core.Bool.{cond}
-use lib.Dec.{ltb, eqb}
-use lib.IntN.{ℤ, pos, negsuc}
+use lib.Dec.{eqb, leb}
+use lib.IntN.{ℤ, negsuc}
 use lib.ListN.{length}
 use Rattle.octets.specs.Octets.{beAt}
+use Rattle.lent.specs.Lent.{Done, done, withCount, ifRoom}
 use Rattle.layout.specs.Fields.{Value, none, missing, is, which, plain}
 use Rattle.layout.specs.Outcomes.{Outcome, refused, read, firstOf, headReasons, refusal, noRefusal}
 use Rattle.layout.specs.declared.Refusal.{Refusal}
@@ -15,7 +16,6 @@ use Rattle.identification.specs.Section1.{outcome₁}
 use Rattle.grid.specs.Section3.{outcome₃}
 use Rattle.product.specs.Section4.{outcome₄}
 use Rattle.packing.specs.Section5.{outcome₅}
-use Rattle.values.specs.Lent.{Done, done, over}
 
 -- INT64_MIN stands for missing
 abbrev pub missingNumber : ℤ
@@ -31,10 +31,6 @@ inRow (which n) = []
 unfoldable pub numbersIn : List Value → List ℤ
 numbersIn [] = []
 numbersIn (v ∷ vs) = inRow v ++ numbersIn vs
-
--- their count and the numbers, at the start of a row
-unfoldable pub withCount : List ℤ → List ℤ → List ℤ
-withCount numbers row = over row (pos (length numbers) ∷ numbers)
 
 -- ---- the sections
 
@@ -57,7 +53,7 @@ sectionOutcome section s =
 -- the section's own refusals, then 18 where there are fewer than 64 places; each leaves the row as it was
 unfoldable pub intoRow : Outcome → List ℤ → Done Refusal (List ℤ)
 intoRow (refused number section place) row = done (refusal number section place) row
-intoRow (read vs) row = cond (ltb (length row) 64) (done (refusal 18 0 0) row) (done noRefusal (withCount (numbersIn vs) row))
+intoRow (read vs) row = ifRoom noRefusal (refusal 18 0 0) (leb 64 (length row)) (withCount (numbersIn vs) row) row
 
 -- ---- for the demands: when a record is told
 

@@ -1,5 +1,5 @@
 use Rattle.octets.proofs.Free.{free}
-use Rattle.octets.proofs.Signs.{kept}
+use Rattle.octets.proofs.Signs.{kept32}
 use Rattle.octets.specs.Octets.{signOf, realYear}
 use Rattle.layout.specs.Fields.{placed, valuesOf}
 use Rattle.layout.specs.Time.{time}
@@ -17,12 +17,12 @@ returns c =
     let s = now (a .section) in
     let at-year = y .before .before .before .u16-at .ensures in
     let at-offset = y .before .before .u16-at2 .ensures in
-    let year = kept (y .signed16 .result) (y .signed16 .ok) ∙ y .signed16 .ensures ∙ ap (signOf 2) at-year in
+    let year = kept32 (y .signed16 .result) (y .signed16 .ok) ∙ y .signed16 .ensures ∙ ap (signOf 2) at-year in
     let offset =
-    kept (c .before .signed162 .result) (c .before .signed162 .ok) ∙ c .before .signed162 .ensures ∙ ap (signOf 2) at-offset
+    kept32 (c .before .signed162 .result) (c .before .signed162 .ok) ∙ c .before .signed162 .ensures ∙ ap (signOf 2) at-offset
     in
     let real =
-    kept (y .before .real-year .result) (y .before .real-year .ok)
+    kept32 (y .before .real-year .result) (y .before .real-year .ok)
     ∙ y .before .real-year .ensures
     ∙ (λ i. realYear (signOf 2 (at-year i)) (signOf 2 (at-offset i)))
     in

@@ -1,5 +1,5 @@
 use Rattle.octets.proofs.Free.{free}
-use Rattle.octets.proofs.Signs.{kept}
+use Rattle.octets.proofs.Signs.{kept32}
 use Rattle.layout.specs.Fields.{placed, valuesOf, plain, is}
 use Rattle.identification.specs.Section1.{origin, statusAndType, valuesIn, templateIn}
 use mathlib.Core.List.{_∷_, _++_}
@@ -18,12 +18,12 @@ returns c =
     ∷ plain (half .before .u8-at2 .ensures i)
     ∷ plain (half .u8-at3 .ensures i)
     ∷ plain (c .before .before .before .u8-at4 .ensures i)
-    ∷ is (kept (start .args .year) (start .fits .year .sfits) i)
+    ∷ is (kept32 (start .args .year) (start .fits .year .sfits) i)
     ∷ (c .before .before .read-time .ensures i
     ++ (plain (c .before .u8-at5 .ensures i)
     ∷ plain (c .u8-at6 .ensures i)
     ∷ templateIn (start .args .number) (start .args .calendar) (start .args .offset)
-    (kept (start .args .real-year) (start .fits .real-year .sfits) i)))
+    (kept32 (start .args .real-year) (start .fits .real-year .sfits) i)))
 
 pub with-years-spec : {M : Type 1} → statement M
 with-years-spec = tie.close (tie.spec free free free free free free free free free free returns)

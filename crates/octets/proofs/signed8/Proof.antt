@@ -1,4 +1,4 @@
-use Rattle.octets.proofs.Signs.{kept}
+use Rattle.octets.proofs.Signs.{kept32}
 use Rattle.octets.specs.Octets.{signOf}
 use mathlib.Core.Path.{_∙_}
 use borrow.Author.Needs.{needs}
@@ -7,7 +7,7 @@ use Rattle.octets.proofs.signed8.Tie as tie
 
 returns : tie.Need-returns
 unfolding signOf
-returns c = kept (c .signed .result) (c .signed .ok) ∙ c .signed .ensures
+returns c = kept32 (c .signed .result) (c .signed .ok) ∙ c .signed .ensures
 
 pub signed8-spec : {M : Type 1} → statement M
 signed8-spec = tie.close (tie.spec (λ c κs. search needs) returns)

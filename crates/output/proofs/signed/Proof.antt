@@ -1,7 +1,8 @@
 use mir.Syntax.{w64}
 use mir.ValLaws.{toZ-ofZ}
 use borrow.Author.Needs.{needs}
-use Rattle.text.proofs.Sizes.{wide-kept, wide-fits, negated-fits, size-of-negative, size-of-other}
+use Rattle.octets.proofs.Signs.{wide-kept, wide-fits}
+use Rattle.text.proofs.Sizes.{negated-fits, size-of-negative, size-of-other}
 use Rattle.output.proofs.signed.Statement.{statement}
 use Rattle.output.proofs.signed.Tie as tie
 

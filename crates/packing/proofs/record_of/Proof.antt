@@ -1,5 +1,5 @@
 use Rattle.octets.proofs.Free.{free}
-use Rattle.octets.proofs.Signs.{kept}
+use Rattle.octets.proofs.Signs.{kept32}
 use Rattle.layout.specs.Fields.{placed, valuesOf, plain, is}
 use Rattle.packing.specs.Section5.{fields₅, valuesIn₅}
 use mathlib.Core.List.{_∷_, []}
@@ -18,8 +18,8 @@ returns c =
     ∷ plain (h .before .before .u32-at2 .ensures i)
     ∷ plain (h .before .u16-at .ensures i)
     ∷ plain (h .u32-at3 .ensures i)
-    ∷ is ((kept (e .result) (e .ok) ∙ e .ensures) i)
-    ∷ is ((kept (d .result) (d .ok) ∙ d .ensures) i)
+    ∷ is ((kept32 (e .result) (e .ok) ∙ e .ensures) i)
+    ∷ is ((kept32 (d .result) (d .ok) ∙ d .ensures) i)
     ∷ plain (c .before .u8-at2 .ensures i)
     ∷ plain (c .u8-at3 .ensures i)
     ∷ []

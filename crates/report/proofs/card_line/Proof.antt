@@ -3,7 +3,7 @@
 use borrow.Author.Needs.{needs}
 use mir.Syntax.{w32}
 use mir.ValLaws.{toZ-ofZ}
-use Rattle.text.proofs.Laws.{and-then}
+use Rattle.lent.proofs.Written.{and-then}
 use Rattle.report.specs.Texts.{cardLine}
 use Rattle.report.proofs.card_line.Statement.{statement}
 use Rattle.report.proofs.card_line.Tie as tie

@@ -1,7 +1,7 @@
 -- `counts_line`: three words and three numbers.
 -- Assumes nothing.
 use borrow.Author.Needs.{needs}
-use Rattle.text.proofs.Laws.{and-then}
+use Rattle.lent.proofs.Written.{and-then}
 use Rattle.report.specs.Texts.{countsLine}
 use Rattle.report.proofs.counts_line.Statement.{statement}
 use Rattle.report.proofs.counts_line.Tie as tie
@@ -15,11 +15,11 @@ returns c =
     let p3 = p4 .before .before .before .before in
     let p2 = p3 .before .before .before .before .before in
     let p1 = p2 .before .before .before .before in
-    and-then _ _ _ (p1 .words .ensures)
+    and-then _ _ _ (p1 .octets .ensures)
     (and-then _ _ _ (p2 .number .ensures)
-    (and-then _ _ _ (p3 .words2 .ensures)
+    (and-then _ _ _ (p3 .octets2 .ensures)
     (and-then _ _ _ (p4 .number2 .ensures)
-    (and-then _ _ _ (p5 .words3 .ensures)
+    (and-then _ _ _ (p5 .octets3 .ensures)
     (p6 .number-then .ensures)))))
 
 pub counts-line-spec : {M : Type 1} → statement M

@@ -5,10 +5,10 @@ use Rattle.report.proofs.fate.Statement.{statement}
 use Rattle.report.proofs.fate.Tie as tie
 
 returns : tie.Need-returns
-returns c = rw (c .before .before .before .before .before .enum-told .given .1) (c .before .before .words .ensures)
+returns c = rw (c .before .before .before .before .before .enum-told .given .1) (c .before .before .octets .ensures)
 
 returns-2 : tie.Need-returns-2
-returns-2 c = rw (c .before .before .before .before .before .enum-told2 .given .1) (c .before .before .words2 .ensures)
+returns-2 c = rw (c .before .before .before .before .before .enum-told2 .given .1) (c .before .before .octets2 .ensures)
 
 returns-3 : tie.Need-returns-3
 returns-3 c = rw (c .before .before .before .before .before .answer .given .1) (c .before .before .refused-fate .ensures)

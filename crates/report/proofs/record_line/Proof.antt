@@ -1,7 +1,7 @@
 -- `record_line`: two numbers, the issue and the fate.
 -- Assumes nothing.
 use borrow.Author.Needs.{needs}
-use Rattle.text.proofs.Laws.{and-then}
+use Rattle.lent.proofs.Written.{and-then}
 use Rattle.report.specs.Texts.{recordLine}
 use Rattle.report.proofs.record_line.Statement.{statement}
 use Rattle.report.proofs.record_line.Tie as tie

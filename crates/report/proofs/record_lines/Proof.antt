@@ -2,8 +2,8 @@
 -- Assumes nothing.
 use Prim.Native.Nat.{ℕ, _+_, _-_, _≤_}
 use native.Mathlib.Omega.{arith}
-use mathlib.Core.Path.{_≡_, refl, ap, sym, _∙_}
-use mathlib.Core.List.{List, _∷_}
+use mathlib.Core.Path.{refl, ap, sym, _∙_}
+use mathlib.Core.List.{List, _++_}
 use lib.ListN.{length, drop}
 use denote.Ref.{now}
 use borrow.Author.Needs.{needs}
@@ -11,10 +11,10 @@ use Rattle.octets.proofs.Free.{free}
 use Rattle.shelf.specs.declared.Shelf.{Shelf}
 use Rattle.shelf.specs.Shelves.{emptyShelf}
 use Rattle.filing.specs.declared.Filed.{Filed}
-use Rattle.queue.specs.Queues.{Sent, Cut, recordIn, recordFiled, cutOf}
+use Rattle.queue.specs.Queues.{Cut, recordIn, cutOf}
 use Rattle.queue.proofs.Walks.{Onward, restAt, walk-on, walk-broken, walk-end}
-use Rattle.text.specs.Text.{Written, written, append}
-use Rattle.text.proofs.Laws.{append-both, same-room}
+use Rattle.lent.specs.Written.{Written, written, append}
+use Rattle.lent.proofs.Written.{Writing, writes-on, writes-all}
 use Rattle.report.specs.Texts.{recordLine, recordLines}
 use Rattle.report.proofs.record_lines.Statement.{statement}
 use Rattle.report.proofs.record_lines.Tie as tie
@@ -22,8 +22,7 @@ use Rattle.report.proofs.record_lines.Tie as tie
 record Inv (first : Written) (queue : List ℕ) (here : Written) (shelf : Shelf) (k i : ℕ) : Type 0 where
   inside : i ≤ length queue
   number : k ≤ i + 1
-  room : length (here .octets) ≡ length (first .octets)
-  left : append here (recordLines k shelf (cutOf (drop i queue) .records)) ≡ append first (recordLines 1 emptyShelf (cutOf queue .records))
+  rest : Writing first (recordLines 1 emptyShelf (cutOf queue .records)) here (recordLines k shelf (cutOf (drop i queue) .records))
 
 abbrev Inv-loop : tie.InvT-loop
 Inv-loop out₀ at queue next₀ shelf₀ k₀ i₀ out next shelf k i = Inv (written out₀ at) queue (written out next) shelf k i
@@ -33,11 +32,12 @@ abbrev μ-loop : tie.MeasureT-loop
 
 loop-holds : tie.Need-loop-holds Inv-loop μ-loop
 loop-holds c =
+    let a = c .before .before .before .args in
+    let x = written (now (a .out)) (a .at) in
     record {
       inside = omega arith;
       number = omega arith;
-      room = refl;
-      left = ap (λ (s : Shelf). append (written (now (c .before .before .before .args .out)) (c .before .before .before .args .at)) (recordLines 1 s (cutOf (now (c .before .before .before .args .queue)) .records))) (c .empty .ensures);
+      rest = record { room = refl; left = ap (λ (s : Shelf). append x (recordLines 1 s (cutOf (now (a .queue)) .records))) (c .empty .ensures) };
     }
 
 sub-rest : tie.Need-sub-rest Inv-loop μ-loop
@@ -56,15 +56,15 @@ enum-told : tie.Need-enum-told Inv-loop μ-loop
 enum-told c = search needs
 
 same-length : tie.Need-same-length Inv-loop μ-loop
-same-length c = c .before .before .before .before .before .loop .inv .room
+same-length c = c .before .before .before .before .before .loop .inv .rest .room
 
 returns : tie.Need-returns Inv-loop μ-loop
-unfolding recordLines append
+unfolding recordLines
 returns c =
     let r = c .before .before in
     let l = r .before .before .before in
     let broken = walk-broken (now (l .before .before .before .before .args .queue)) (l .loop .i) (r .before .before .loop-test .taken) (sym (r .record-of .ensures) ∙ c .enum-told .given .1) in
-    sym (ap (λ (x : Cut). append (written (l .loop .out) (l .loop .next)) (recordLines (l .loop .k) (l .loop .shelf) (x .records))) broken) ∙ l .loop .inv .left
+    writes-all _ _ _ (l .loop .inv .rest) (ap (λ (x : Cut). recordLines (l .loop .k) (l .loop .shelf) (x .records)) broken)
 
 add-k : tie.Need-add-k Inv-loop μ-loop
 add-k c =
@@ -83,13 +83,8 @@ add-i c = omega (arith, on c .inside, c .before .before .before .before .before 
 loop-less : tie.Need-loop-less Inv-loop μ-loop
 loop-less c = omega (arith, on c .more, on c .inside)
 
--- the line of one record, and those of the others
-one-record : (x : Written) (k : ℕ) (shelf : Shelf) (r : Sent) (rs : List Sent) → append x (recordLines k shelf (r ∷ rs))
-    ≡ append (append x (recordLine k (r .slot) (r .issue) (recordFiled shelf r .answer))) (recordLines (k + 1) (recordFiled shelf r .shelf) rs)
-unfolding recordLines
-one-record x k shelf r rs = append-both x (recordLine k (r .slot) (r .issue) (recordFiled shelf r .answer)) (recordLines (k + 1) (recordFiled shelf r .shelf) rs)
-
 loop-again : tie.Need-loop-again Inv-loop μ-loop
+unfolding recordLines
 loop-again c =
     let line = c .before .before .before .before in
     let f = line .before .before in
@@ -100,26 +95,26 @@ loop-again c =
     let x = written (l .loop .out) (l .loop .next) in
     let k = l .loop .k in
     let rest = cutOf (drop (l .loop .i + h .end) q) .records in
+    let filed = f .file-record .ensures in
     record {
       inside = on c .inside;
       number = omega (arith, l .loop .inv .number, on c .more);
-      room = ap (λ (w : Written). length (w .octets)) (line .record-line .ensures) ∙ same-room x _ ∙ l .loop .inv .room;
-      left = ap (λ (w : Written). append w (recordLines (k + 1) (f .file-record .result .shelf) rest)) (line .record-line .ensures)
-          ∙ ap (λ (y : Filed). append (append x (recordLine k (r .slot) (r .issue) (y .answer))) (recordLines (k + 1) (y .shelf) rest)) (f .file-record .ensures)
-          ∙ sym (one-record x k (l .loop .shelf) r rest)
-          ∙ sym (ap (λ (y : Cut). append x (recordLines k (l .loop .shelf) (y .records))) (on c .cut))
-          ∙ l .loop .inv .left;
+      rest =
+          writes-on _ _ x (recordLine k (r .slot) (r .issue) (f .file-record .result .answer)) _ (l .loop .inv .rest)
+          (ap (λ (y : Cut). recordLines k (l .loop .shelf) (y .records)) (on c .cut)
+          ∙ sym (ap (λ (y : Filed). recordLine k (r .slot) (r .issue) (y .answer) ++ recordLines (k + 1) (y .shelf) rest) filed))
+          (line .record-line .ensures);
     }
 
 same-length-2 : tie.Need-same-length-2 Inv-loop μ-loop
-same-length-2 c = c .before .loop .inv .room
+same-length-2 c = c .before .loop .inv .rest .room
 
 returns-2 : tie.Need-returns-2 Inv-loop μ-loop
-unfolding recordLines append
+unfolding recordLines
 returns-2 c =
     let l = c .before in
-    sym (ap (λ (x : Cut). append (written (l .loop .out) (l .loop .next)) (recordLines (l .loop .k) (l .loop .shelf) (x .records))) (walk-end (now (l .before .before .before .before .args .queue)) (l .loop .i) (c .loop-test .left)))
-    ∙ l .loop .inv .left
+    writes-all _ _ _ (l .loop .inv .rest)
+    (ap (λ (x : Cut). recordLines (l .loop .k) (l .loop .shelf) (x .records)) (walk-end (now (l .before .before .before .before .args .queue)) (l .loop .i) (c .loop-test .left)))
 
 pub record-lines-spec : {M : Type 1} → statement M
 record-lines-spec =

@@ -1,7 +1,7 @@
 -- `refused_fate`: the word and three numbers.
 -- Assumes nothing.
 use borrow.Author.Needs.{needs}
-use Rattle.text.proofs.Laws.{and-then}
+use Rattle.lent.proofs.Written.{and-then}
 use Rattle.report.proofs.refused_fate.Statement.{statement}
 use Rattle.report.proofs.refused_fate.Tie as tie
 
@@ -11,7 +11,7 @@ returns c =
     let p3 = p4 .before .before .before .before in
     let p2 = p3 .before .before .before .before .before in
     let p1 = p2 .before .before .before .before .before in
-    and-then _ _ _ (p1 .words .ensures)
+    and-then _ _ _ (p1 .octets .ensures)
     (and-then _ _ _ (p2 .number-then .ensures)
     (and-then _ _ _ (p3 .number-then2 .ensures)
     (p4 .number-then3 .ensures)))

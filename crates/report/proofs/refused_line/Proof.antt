@@ -1,7 +1,7 @@
 -- `refused_line`: the word and the number.
 -- Assumes nothing.
 use borrow.Author.Needs.{needs}
-use Rattle.text.proofs.Laws.{and-then}
+use Rattle.lent.proofs.Written.{and-then}
 use Rattle.report.specs.Texts.{refusedLine}
 use Rattle.report.proofs.refused_line.Statement.{statement}
 use Rattle.report.proofs.refused_line.Tie as tie
@@ -11,7 +11,7 @@ unfolding refusedLine
 returns c =
     let p2 = c .before .before in
     let p1 = p2 .before .before .before .before .before in
-    and-then _ _ _ (p1 .words .ensures)
+    and-then _ _ _ (p1 .octets .ensures)
     (p2 .number-then .ensures)
 
 pub refused-line-spec : {M : Type 1} → statement M

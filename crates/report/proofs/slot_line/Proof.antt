@@ -2,7 +2,7 @@
 -- Assumes nothing.
 use borrow.Author.Needs.{needs}
 use borrow.Author.Tests.{not-true, not-false}
-use Rattle.text.specs.Text.{append}
+use Rattle.lent.specs.Written.{append}
 use Rattle.report.specs.Texts.{slotLine}
 use Rattle.report.proofs.slot_line.Statement.{statement}
 use Rattle.report.proofs.slot_line.Tie as tie

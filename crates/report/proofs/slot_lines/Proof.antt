@@ -1,23 +1,26 @@
 -- `slot_lines`: slot by slot, what is left to write stands behind what is written.
 -- Assumes nothing.
-use Prim.Native.Nat.{ℕ, suc, _+_, _-_, _≤_}
+use Prim.Native.Nat.{ℕ, _-_, _≤_}
 use native.Mathlib.Omega.{arith}
-use mathlib.Core.Path.{_≡_, refl, ap, sym, _∙_}
-use lib.ListN.{length}
+use mathlib.Core.Path.{refl, ap, _∙_}
+use mathlib.Core.List.{List}
 use Rattle.octets.proofs.Free.{free}
+use Rattle.lent.specs.Rows.{inTurn}
+use Rattle.lent.specs.Written.{Written, written, append}
+use Rattle.lent.proofs.Written.{Writing, writes-on, writes-all, next-in-turn, none-in-turn}
 use Rattle.shelf.specs.declared.Shelf.{Shelf}
 use Rattle.shelf.specs.declared.Slot.{Slot}
 use Rattle.shelf.specs.Shelves.{slotAt}
-use Rattle.text.specs.Text.{Written, written, append}
-use Rattle.text.proofs.Laws.{append-both, same-room}
 use Rattle.report.specs.Texts.{slotLine, slotLines}
 use Rattle.report.proofs.slot_lines.Statement.{statement}
 use Rattle.report.proofs.slot_lines.Tie as tie
 
-record Inv (first : Written) (shelf : Shelf) (now : Written) (i : ℕ) : Type 0 where
+abbrev line-of : Shelf → ℕ → List ℕ
+line-of shelf n = slotLine n (slotAt shelf n)
+
+record Inv (first : Written) (shelf : Shelf) (here : Written) (i : ℕ) : Type 0 where
   turns : i ≤ 64
-  room : length (now .octets) ≡ length (first .octets)
-  left : append now (slotLines shelf i (64 - i)) ≡ append first (slotLines shelf 0 64)
+  rest : Writing first (slotLines shelf) here (inTurn (line-of shelf) i (64 - i))
 
 abbrev Inv-loop : tie.InvT-loop
 Inv-loop out₀ at shelf next₀ i₀ out next i = Inv (written out₀ at) shelf (written out next) i
@@ -25,46 +28,23 @@ Inv-loop out₀ at shelf next₀ i₀ out next i = Inv (written out₀ at) shelf
 abbrev μ-loop : tie.MeasureT-loop
 μ-loop out₀ at shelf next₀ i₀ out next i = 64 - i
 
--- the line of one slot, and those of the others
-one-slot : (x : Written) (shelf : Shelf) (i more : ℕ) → append x (slotLines shelf i (suc more)) ≡ append (append x (slotLine i (slotAt shelf i))) (slotLines shelf (i + 1) more)
-unfolding slotLines
-one-slot x shelf i more = append-both x (slotLine i (slotAt shelf i)) (slotLines shelf (i + 1) more)
-
 loop-holds : tie.Need-loop-holds Inv-loop μ-loop
-loop-holds c = record { turns = omega arith; room = refl; left = refl }
-
-add-i : tie.Need-add-i Inv-loop μ-loop
-add-i c = omega arith
-
-loop-less : tie.Need-loop-less Inv-loop μ-loop
-loop-less c = omega arith
+loop-holds c = record { turns = omega arith; rest = record { room = refl; left = refl } }
 
 loop-again : tie.Need-loop-again Inv-loop μ-loop
 loop-again c =
-    let l = c .before .before .before .before .before .before in
-    let shelf = l .before .before .args .shelf in
+    let w = c .before .before in
+    let l = w .before .before .before .before in
+    let f = line-of (l .before .before .args .shelf) in
     let i = l .loop .i in
     let x = written (l .loop .out) (l .loop .next) in
-    let slot = ap (λ (s : Slot). append x (slotLine i s)) (c .before .before .before .slot-of .ensures) in
-    let more : suc (64 - (i + 1)) ≡ 64 - i = omega arith in
-    record {
-      turns = omega arith;
-      room = ap (λ (w : Written). length (w .octets)) (c .before .before .slot-line .ensures) ∙ same-room x _ ∙ l .loop .inv .room;
-      left = ap (λ (w : Written). append w (slotLines shelf (i + 1) (64 - (i + 1)))) (c .before .before .slot-line .ensures ∙ slot)
-          ∙ sym (one-slot x shelf i (64 - (i + 1)))
-          ∙ ap (λ (n : ℕ). append x (slotLines shelf i n)) more
-          ∙ l .loop .inv .left;
-    }
-
-same-length : tie.Need-same-length Inv-loop μ-loop
-same-length c = c .before .loop .inv .room
+    let line = w .slot-line .ensures ∙ ap (λ (s : Slot). append x (slotLine i s)) (w .before .slot-of .ensures) in
+    record { turns = omega arith; rest = writes-on _ _ x (f i) _ (l .loop .inv .rest) (next-in-turn f 64 i (omega arith)) line }
 
 returns : tie.Need-returns Inv-loop μ-loop
-unfolding slotLines append
 returns c =
     let l = c .before in
-    let none : 64 - l .loop .i ≡ 0 = omega arith in
-    sym (ap (λ (n : ℕ). append (written (l .loop .out) (l .loop .next)) (slotLines (l .before .before .args .shelf) (l .loop .i) n)) none) ∙ l .loop .inv .left
+    writes-all _ _ _ (l .loop .inv .rest) (none-in-turn (line-of (l .before .before .args .shelf)) 64 (l .loop .i) (omega arith))
 
 pub slot-lines-spec : {M : Type 1} → statement M
 slot-lines-spec =
@@ -75,8 +55,8 @@ slot-lines-spec =
     loop-holds
     free
     free
-    add-i
-    loop-less
+    (λ c. omega arith)
+    (λ c. omega arith)
     loop-again
-    same-length
+    (λ c. c .before .loop .inv .rest .room)
     returns)

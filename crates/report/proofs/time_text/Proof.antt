@@ -1,7 +1,7 @@
 -- `time_text`: five numbers, each with a space.
 -- Assumes nothing.
 use borrow.Author.Needs.{needs}
-use Rattle.text.proofs.Laws.{and-then}
+use Rattle.lent.proofs.Written.{and-then}
 use Rattle.report.specs.Texts.{timeText}
 use Rattle.report.proofs.time_text.Statement.{statement}
 use Rattle.report.proofs.time_text.Tie as tie

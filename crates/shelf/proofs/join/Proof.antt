@@ -9,7 +9,8 @@ use native.Mathlib.Numerals.{add-one}
 use lib.ListN.{length}
 use Rattle.shelf.specs.declared.Slot.{Slot}
 use Rattle.shelf.specs.Shelves.{greaterSlot}
-use Rattle.shelf.proofs.Pointwise.{upTo, upTo-suc, upTo-all, unmapped}
+use Rattle.octets.proofs.Lists.{unmapped}
+use Rattle.shelf.proofs.Pointwise.{upTo, upTo-suc, upTo-all}
 use Rattle.shelf.proofs.join.Statement.{statement}
 use Rattle.shelf.proofs.join.Tie as tie
 

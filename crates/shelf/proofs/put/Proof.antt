@@ -8,7 +8,7 @@ use Rattle.card.proofs.Strict.{max-right, max-left}
 use Rattle.shelf.specs.Shelves.{lessSlot, greaterSlot, holding, blank, slotAt}
 use Rattle.shelf.specs.declared.Slot.{Slot}
 use Rattle.shelf.proofs.Slots.{slot-strict}
-use Rattle.shelf.proofs.Pointwise.{unmapped, getD-within}
+use Rattle.octets.proofs.Lists.{unmapped, getD-within}
 use borrow.Author.Needs.{needs}
 use Rattle.shelf.proofs.put.Statement.{statement}
 use Rattle.shelf.proofs.put.Tie as tie

@@ -3,7 +3,7 @@ use native.Mathlib.Omega.{arith}
 use lib.ListN.{length, List·getD-eq-default}
 use borrow.Author.Needs.{needs}
 use Rattle.shelf.specs.Shelves.{blank}
-use Rattle.shelf.proofs.Pointwise.{unmapped, getD-within}
+use Rattle.octets.proofs.Lists.{unmapped, getD-within}
 use Rattle.shelf.proofs.slot_of.Statement.{statement}
 use Rattle.shelf.proofs.slot_of.Tie as tie
 

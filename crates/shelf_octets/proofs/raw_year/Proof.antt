@@ -1,4 +1,4 @@
-use Rattle.text.proofs.Sizes.{wide-fits}
+use Rattle.octets.proofs.Signs.{wide-fits}
 use Rattle.shelf_octets.proofs.Years.{sum-fits, raw-fits, raw-is}
 use Rattle.shelf_octets.proofs.raw_year.Statement.{statement}
 use Rattle.shelf_octets.proofs.raw_year.Tie as tie

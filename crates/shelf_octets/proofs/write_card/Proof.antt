@@ -8,9 +8,9 @@ use mir.ValLaws.{toZ-ofZ}
 use Rattle.octets.specs.Octets.{part}
 use Rattle.octets.proofs.Free.{free}
 use Rattle.octets.proofs.Laws.{part-all}
-use Rattle.shelf.proofs.Pointwise.{unmapped}
-use Rattle.text.specs.Text.{append}
-use Rattle.text.proofs.Laws.{and-then}
+use Rattle.octets.proofs.Lists.{unmapped}
+use Rattle.lent.specs.Written.{append}
+use Rattle.lent.proofs.Written.{and-then}
 use Rattle.shelf_octets.specs.ShelfOctets.{octetsOfCard}
 use Rattle.shelf_octets.proofs.write_card.Statement.{statement}
 use Rattle.shelf_octets.proofs.write_card.Tie as tie
@@ -31,8 +31,8 @@ year-of p7 =
 abbrev start-of : tie.After-raw-year → tie.Start
 start-of year = year .before .before .before .before .before
 
-slice-aggregate-words : tie.Need-slice-aggregate-words
-slice-aggregate-words c = sym (length-is (start-of (year-of (c .before .before .before .before))))
+slice-aggregate-octets : tie.Need-slice-aggregate-octets
+slice-aggregate-octets c = sym (length-is (start-of (year-of (c .before .before .before .before))))
 
 returns : tie.Need-returns
 unfolding octetsOfCard
@@ -55,7 +55,7 @@ returns c =
     (and-then _ _ _ (p5 .octet4 .ensures)
     (and-then _ _ _ (p6 .octet5 .ensures)
     (and-then _ _ _ (p7 .write-number2 .ensures)
-    (p8 .words .ensures ∙ ap (append _) (sym product))))))))
+    (p8 .octets .ensures ∙ ap (append _) (sym product))))))))
 
 pub write-card-spec : {M : Type 1} → statement M
 write-card-spec =
@@ -69,7 +69,7 @@ write-card-spec =
     free
     free
     free
-    slice-aggregate-words
+    slice-aggregate-octets
     free
     (λ c. search needs)
     returns)

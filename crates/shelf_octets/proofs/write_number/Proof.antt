@@ -7,7 +7,7 @@ use mathlib.Core.List.{[], _∷_}
 use borrow.Author.Needs.{needs}
 use Rattle.octets.proofs.Free.{free}
 use Rattle.octets.specs.Octets.{digits}
-use Rattle.text.proofs.Laws.{and-then}
+use Rattle.lent.proofs.Written.{and-then}
 use Rattle.shelf_octets.proofs.write_number.Statement.{statement}
 use Rattle.shelf_octets.proofs.write_number.Tie as tie
 

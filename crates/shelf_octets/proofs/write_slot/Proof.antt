@@ -3,7 +3,7 @@
 use borrow.Author.Needs.{needs}
 use borrow.Author.Tests.{not-true, not-false}
 use Rattle.octets.proofs.Free.{free}
-use Rattle.text.proofs.Laws.{and-then}
+use Rattle.lent.proofs.Written.{and-then}
 use Rattle.shelf_octets.specs.ShelfOctets.{octetsOfSlot}
 use Rattle.shelf_octets.proofs.write_slot.Statement.{statement}
 use Rattle.shelf_octets.proofs.write_slot.Tie as tie
@@ -13,7 +13,7 @@ unfolding octetsOfSlot
 returns c =
     let w = c .before .before in
     let t = w .before .before .before in
-    rw (not-true (t .before .before .before .args .slot .held) (t .if1 .taken)) (w .words .ensures)
+    rw (not-true (t .before .before .before .args .slot .held) (t .if1 .taken)) (w .octets .ensures)
 
 returns-2 : tie.Need-returns-2
 unfolding octetsOfSlot

@@ -7,7 +7,7 @@ use mathlib.Core.List.{List}
 use lib.IntN.{ℤ}
 use denote.Ref.{now}
 use Rattle.layout.specs.declared.Refusal.{Refusal}
-use Rattle.values.specs.Lent.{Done, done}
+use Rattle.lent.specs.Lent.{Done, done}
 use Rattle.values.proofs.RecordRead.{within}
 use Rattle.skogmund.specs.Entries.{codeOf, inOneNumber, recordTold}
 use Rattle.skogmund.proofs.skogmund_read.Statement.{statement}

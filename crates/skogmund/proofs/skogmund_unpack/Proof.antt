@@ -3,7 +3,7 @@
 use borrow.Author.Needs.{needs}
 use mathlib.Core.Path.{sym, ap, ap₂, _∙_}
 use Rattle.packing.specs.Unpacking.{toldUnpacked}
-use Rattle.values.specs.Lent.{done}
+use Rattle.lent.specs.Lent.{done}
 use Rattle.skogmund.specs.Entries.{coded, rowUnpacked}
 use Rattle.packing.proofs.RefusalNumbers.{unpacking-refuses}
 use Rattle.skogmund.proofs.skogmund_unpack.Statement.{statement}

@@ -1,5 +1,5 @@
 use borrow.Author.Needs.{needs}
-use Rattle.text.proofs.Laws.{and-then}
+use Rattle.lent.proofs.Written.{and-then}
 use Rattle.text.proofs.number_then.Statement.{statement}
 use Rattle.text.proofs.number_then.Tie as tie
 

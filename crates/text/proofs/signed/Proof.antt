@@ -1,6 +1,7 @@
 use borrow.Author.Needs.{needs}
-use Rattle.text.proofs.Laws.{and-then}
-use Rattle.text.proofs.Sizes.{wide-kept, wide-fits, negated-fits, negated-kept, size-of-negative, size-of-other, text-of-negative, text-of-other}
+use Rattle.lent.proofs.Written.{and-then}
+use Rattle.octets.proofs.Signs.{wide-kept, wide-fits}
+use Rattle.text.proofs.Sizes.{negated-fits, negated-kept, size-of-negative, size-of-other, text-of-negative, text-of-other}
 use Rattle.text.proofs.signed.Statement.{statement}
 use Rattle.text.proofs.signed.Tie as tie
 

@@ -2,16 +2,12 @@
 -- Assumes nothing.
 use borrow.Author.Needs.{needs}
 use borrow.Author.Tests.{ne-eqb}
-use Prim.Native.Nat.{ℕ, _<_, _^_}
+use Prim.Native.Nat.{ℕ}
 use native.Mathlib.Omega.{arith}
 use mathlib.Core.Path.{_≡_, refl, ap, sym, _∙_}
 use mathlib.Core.List.{List}
 use lib.IntN.{ℤ}
-use lib.Signed.{mag}
-use mir.Syntax.{w64}
-use mir.Val.{toZ, ofZ}
-use mir.ValLaws.{toZ-ofZ}
-use Rattle.text.proofs.Sizes.{wide-kept, wide-fits}
+use Rattle.octets.proofs.Signs.{kept64, wide-kept, wide-fits}
 use Rattle.values.specs.Letters.{kindOf, numberOf, numberBy}
 use Rattle.values.proofs.Words.{widened}
 use Rattle.values.proofs.field_at.Statement.{statement}
@@ -20,10 +16,6 @@ use Rattle.values.proofs.field_at.Tie as tie
 -- an arm answers by the kind of its letter
 arm : (at : ℕ) (s : List ℕ) {letter key w : ℕ} {r : ℤ} → letter ≡ key → r ≡ numberBy (kindOf key) at s → w ≡ kindOf key .octets → (r ≡ numberBy (kindOf letter) at s) × (w ≡ kindOf letter .octets)
 arm at s e p q = (p ∙ sym (ap (λ (l : ℕ). numberBy (kindOf l) at s) e), q ∙ sym (ap (λ (l : ℕ). kindOf l .octets) e))
-
--- a signed number of 64 bits, handed on
-kept : {z y : ℤ} → mag z < 2 ^ 63 → z ≡ y → toZ w64 (ofZ w64 z) ≡ y
-kept {z} h e = toZ-ofZ w64 z (record { sfits = h }) ∙ e
 
 returns : tie.Need-returns
 unfolding kindOf
@@ -47,19 +39,19 @@ returns-5 c = arm _ _ (c .before .match .keys5) (wide-kept (c .signed32-at .resu
 
 returns-6 : tie.Need-returns-6
 unfolding kindOf
-returns-6 c = arm _ _ (c .before .before .match .keys6) (kept (c .signed .ok) (c .signed .ensures ∙ ap numberOf (c .before .signed8-or-missing .ensures))) refl
+returns-6 c = arm _ _ (c .before .before .match .keys6) (kept64 (c .signed .result) (c .signed .ok) ∙ (c .signed .ensures ∙ ap numberOf (c .before .signed8-or-missing .ensures))) refl
 
 returns-7 : tie.Need-returns-7
 unfolding kindOf
-returns-7 c = arm _ _ (c .before .before .match .keys7) (kept (c .signed2 .ok) (c .signed2 .ensures ∙ ap numberOf (c .before .signed32-or-missing .ensures))) refl
+returns-7 c = arm _ _ (c .before .before .match .keys7) (kept64 (c .signed2 .result) (c .signed2 .ok) ∙ (c .signed2 .ensures ∙ ap numberOf (c .before .signed32-or-missing .ensures))) refl
 
 returns-8 : tie.Need-returns-8
 unfolding kindOf
-returns-8 c = arm _ _ (c .before .before .match .keys8) (kept (c .unsigned .ok) (c .unsigned .ensures ∙ ap numberOf (c .before .u8-or-missing .ensures))) refl
+returns-8 c = arm _ _ (c .before .before .match .keys8) (kept64 (c .unsigned .result) (c .unsigned .ok) ∙ (c .unsigned .ensures ∙ ap numberOf (c .before .u8-or-missing .ensures))) refl
 
 returns-9 : tie.Need-returns-9
 unfolding kindOf
-returns-9 c = arm _ _ (c .before .before .match .keys9) (kept (c .unsigned2 .ok) (c .unsigned2 .ensures ∙ ap numberOf (c .before .u16-or-missing .ensures))) refl
+returns-9 c = arm _ _ (c .before .before .match .keys9) (kept64 (c .unsigned2 .result) (c .unsigned2 .ok) ∙ (c .unsigned2 .ensures ∙ ap numberOf (c .before .u16-or-missing .ensures))) refl
 
 returns-10 : tie.Need-returns-10
 unfolding kindOf
@@ -76,7 +68,7 @@ returns-10 c =
       ne-eqb _ _ (other .0 .1),
       ne-eqb _ _ (other .1),
     )
-    (kept (c .unsigned3 .ok) (c .unsigned3 .ensures ∙ ap numberOf (c .before .u32-or-missing .ensures)), refl)
+    (kept64 (c .unsigned3 .result) (c .unsigned3 .ok) ∙ (c .unsigned3 .ensures ∙ ap numberOf (c .before .u32-or-missing .ensures)), refl)
 
 pub field-at-spec : {M : Type 1} → statement M
 field-at-spec =

@@ -10,7 +10,8 @@ use Rattle.grid.specs.Templates.{templateNumbered}
 use Rattle.grid.specs.Section3.{outcome₃}
 use Rattle.grid.specs.declared.templates.Template.the-variants.{StretchedAndRotated}
 use Rattle.values.specs.Letters.{numbersBy}
-use Rattle.values.specs.Records.{withCount, PutsRecord}
+use Rattle.lent.specs.Lent.{withCount}
+use Rattle.values.specs.Records.{PutsRecord}
 use Rattle.values.proofs.Templates.{word₃, row₃, last₃}
 use Rattle.values.proofs.put_grid.Statement.{statement}
 use Rattle.values.proofs.put_grid.Tie as tie

@@ -12,12 +12,13 @@ use lib.IntN.{ℤ}
 use lib.ListN.{length}
 use denote.Ref.{now}
 use Rattle.octets.specs.Octets.{beAt, signOf, realYear}
-use Rattle.text.proofs.Sizes.{wide-kept, wide-fits}
+use Rattle.octets.proofs.Signs.{wide-kept, wide-fits}
 use Rattle.identification.specs.Section1.{realYearAt, outcome₁}
 use Rattle.identification.specs.declared.Template.{Template}
 use Rattle.identification.specs.declared.Template.the-variants.{None as noTemplate, Calendar, Offset, CalendarAndOffset}
 use Rattle.values.specs.Letters.{numbersBy}
-use Rattle.values.specs.Records.{withCount, PutsRecord}
+use Rattle.lent.specs.Lent.{withCount}
+use Rattle.values.specs.Records.{PutsRecord}
 use Rattle.values.proofs.Words.{widened}
 use Rattle.values.proofs.Templates.{word₁, numbered₁, template₁, row₁, last₁}
 use Rattle.values.proofs.put_identification.Statement.{statement}

@@ -14,7 +14,8 @@ use Rattle.product.specs.declared.templates.Template.the-variants.{NotListed, L
 use Rattle.product.specs.declared.templates.PartKind.the-variants.{Aerosol}
 use Rattle.octets.specs.Octets.{beAt}
 use Rattle.values.specs.Letters.{numbersBy}
-use Rattle.values.specs.Records.{withCount, PutsRecord}
+use Rattle.lent.specs.Lent.{withCount}
+use Rattle.values.specs.Records.{PutsRecord}
 use Rattle.values.proofs.Templates.{word₄, row₄}
 use Rattle.values.proofs.put_product.Statement.{statement}
 use Rattle.values.proofs.put_product.Tie as tie

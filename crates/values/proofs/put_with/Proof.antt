@@ -12,8 +12,10 @@ use denote.Ref.{now}
 use mir.Syntax.{w64}
 use mir.Val.{toZ, ofZ}
 use mir.ValLaws.{toZ-pos, toZ-ofZ}
+use Rattle.lent.specs.Lent.{withCount}
+use Rattle.lent.proofs.Rows.{first-over, sets-both}
 use Rattle.values.specs.Letters.{numbersBy}
-use Rattle.values.proofs.Words.{as-many, count-first, one-more}
+use Rattle.values.proofs.Words.{as-many}
 use Rattle.values.proofs.put_with.Statement.{statement}
 use Rattle.values.proofs.put_with.Tie as tie
 
@@ -26,6 +28,7 @@ slice-set-from-values c =
     omega (arith, start .pre, same)
 
 returns : tie.Need-returns
+unfolding withCount
 returns c =
     let start = c .before .before .before .before .before in
     let a = start .args in
@@ -37,8 +40,8 @@ returns c =
     let last = toZ-ofZ w64 _ (start .fits .last) in
     let place : length (now (a .letters)) + 1 ≡ 1 + length ns = omega (arith, many) in
     (λ i. set (set (c .before .put-fields .ensures i) (place i) (last i)) 0 (count i))
-    ∙ ap (λ (l : List ℤ). set l 0 (pos (length all))) (one-more ns (now (a .values)) 1 (a .last))
-    ∙ count-first all (now (a .values)) (omega (arith, start .pre, whole))
+    ∙ ap (λ (l : List ℤ). set l 0 (pos (length all))) (sets-both ns (a .last ∷ []) (now (a .values)) 1)
+    ∙ first-over _ all (now (a .values)) (omega (arith, start .pre, whole))
 
 pub put-with-spec : {M : Type 1} → statement M
 put-with-spec =

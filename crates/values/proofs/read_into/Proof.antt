@@ -1,7 +1,7 @@
 -- `read_into`: the section's refusal, then 18, then the row.
 -- Assumes nothing.
 use borrow.Author.Needs.{needs}
-use borrow.Author.Tests.{lt-ltb}
+use borrow.Author.Tests.{lt-leb}
 use Prim.Native.Nat.{_<_}
 use mathlib.Core.Path.{_≡_, ap, ap₂, sym, _∙_}
 use mathlib.Core.List.{List}
@@ -11,7 +11,7 @@ use denote.Ref.{now}
 use Rattle.layout.specs.Fields.{Value}
 use Rattle.layout.specs.Outcomes.{Outcome, refused, read, refusal, refusalOf}
 use Rattle.layout.specs.declared.Refusal.{Refusal}
-use Rattle.values.specs.Lent.{done}
+use Rattle.lent.specs.Lent.{done}
 use Rattle.values.specs.Records.{sectionOutcome, intoRow}
 use Rattle.values.proofs.RecordRead.{all-proper, accepting, record-put}
 use Rattle.values.proofs.read_into.Statement.{statement}
@@ -25,7 +25,7 @@ refusing (read vs) row r e h = absurd (h (ap (λ (x : Refusal). x .number) e))
 
 no-room : (o : Outcome) (row : List ℤ) (vs : List Value) (r : Refusal) → o ≡ read vs → length row < 64 → r ≡ refusal 18 0 0 → done r row ≡ intoRow o row
 unfolding intoRow
-no-room o row vs r e h f = rw (e, lt-ltb _ _ h) (ap (λ (x : Refusal). done x row) f)
+no-room o row vs r e h f = rw (e, lt-leb 64 _ h) (ap (λ (x : Refusal). done x row) f)
 
 -- where the number is 0, the section is accepted
 accepted-by : (c : tie.Else1) → (vs : List Value) × (sectionOutcome (c .before .before .before .before .args .section) (now (c .before .before .before .before .args .s)) ≡ read vs)

@@ -1,5 +1,5 @@
 use borrow.Author.Needs.{needs}
-use Rattle.text.proofs.Sizes.{wide-kept, wide-fits}
+use Rattle.octets.proofs.Signs.{wide-kept, wide-fits}
 use Rattle.values.proofs.signed.Statement.{statement}
 use Rattle.values.proofs.signed.Tie as tie
 

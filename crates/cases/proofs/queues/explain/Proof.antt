@@ -3,7 +3,7 @@
 use borrow.Author.Needs.{needs}
 use mathlib.Core.Path.{sym}
 use lib.Seq.{length-take-le}
-use Rattle.text.proofs.Laws.{starts-within}
+use Rattle.lent.proofs.Written.{starts-within}
 use Rattle.cases.proofs.queues.explain.Statement.{statement}
 use Rattle.cases.proofs.queues.explain.Tie as tie
 

@@ -1,5 +1,5 @@
 use Rattle.octets.proofs.Free.{free}
-use Rattle.octets.proofs.Signs.{kept}
+use Rattle.octets.proofs.Signs.{kept32}
 use mathlib.Core.Path.{_∙_}
 use mathlib.Core.List.{[], _∷_, _++_}
 use Rattle.layout.specs.Fields.{placed, valuesOf, plain, is}
@@ -17,11 +17,11 @@ returns c =
     ∷ f .before .before .u32-or-missing2 .ensures i
     ∷ plain (f .before .u32-at .ensures i)
     ∷ f .u32-or-missing3 .ensures i
-    ∷ is ((kept (l .before .before .before .signed32-at .result) (l .before .before .before .signed32-at .ok) ∙ l .before .before .before .signed32-at .ensures) i)
-    ∷ is ((kept (l .before .before .signed32-at2 .result) (l .before .before .signed32-at2 .ok) ∙ l .before .before .signed32-at2 .ensures) i)
+    ∷ is ((kept32 (l .before .before .before .signed32-at .result) (l .before .before .before .signed32-at .ok) ∙ l .before .before .before .signed32-at .ensures) i)
+    ∷ is ((kept32 (l .before .before .signed32-at2 .result) (l .before .before .signed32-at2 .ok) ∙ l .before .before .signed32-at2 .ensures) i)
     ∷ plain (l .before .u8-at .ensures i)
-    ∷ is ((kept (l .signed32-at3 .result) (l .signed32-at3 .ok) ∙ l .signed32-at3 .ensures) i)
-    ∷ is ((kept (c .before .before .before .signed32-at4 .result) (c .before .before .before .signed32-at4 .ok) ∙ c .before .before .before .signed32-at4 .ensures) i)
+    ∷ is ((kept32 (l .signed32-at3 .result) (l .signed32-at3 .ok) ∙ l .signed32-at3 .ensures) i)
+    ∷ is ((kept32 (c .before .before .before .signed32-at4 .result) (c .before .before .before .signed32-at4 .ok) ∙ c .before .before .before .signed32-at4 .ensures) i)
     ∷ c .before .before .u32-or-missing4 .ensures i
     ∷ c .before .u32-or-missing5 .ensures i
     ∷ plain (c .u8-at2 .ensures i)

@@ -1,5 +1,5 @@
 use Rattle.octets.proofs.Free.{free}
-use Rattle.octets.proofs.Signs.{kept}
+use Rattle.octets.proofs.Signs.{kept32}
 use mathlib.Core.Path.{_∙_}
 use mathlib.Core.List.{[], _∷_}
 use Rattle.layout.specs.Fields.{placed, valuesOf, plain, is}
@@ -13,8 +13,8 @@ unfolding placed valuesOf pole poleIn
 returns c =
     let latitude = c .before .before .signed32-at in
     let longitude = c .before .signed32-at2 in
-    λ i. is ((kept (latitude .result) (latitude .ok) ∙ latitude .ensures) i)
-    ∷ is ((kept (longitude .result) (longitude .ok) ∙ longitude .ensures) i)
+    λ i. is ((kept32 (latitude .result) (latitude .ok) ∙ latitude .ensures) i)
+    ∷ is ((kept32 (longitude .result) (longitude .ok) ∙ longitude .ensures) i)
     ∷ plain (c .u32-at .ensures i)
     ∷ []
 

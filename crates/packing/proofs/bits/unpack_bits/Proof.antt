@@ -7,9 +7,10 @@ use native.Mathlib.Nat.{mul-le-mul-left}
 use native.Mathlib.Omega.{arith}
 use lib.ListN.{length, length-set}
 use denote.Ref.{now}
-use Rattle.packing.specs.Packed.{bitsFrom, packedAt}
+use Rattle.lent.proofs.Rows.{Filled, all-filled, filled-set}
+use Rattle.packing.specs.Packed.{bitsFrom, packedAt, unpacked}
 use Rattle.packing.specs.declared.bits.Cursor.{Cursor}
-use Rattle.packing.proofs.Runs.{Filled, next-place, all-written, written-set}
+use Rattle.packing.proofs.Runs.{next-place}
 use Rattle.packing.proofs.bits.unpack_bits.Statement.{statement}
 use Rattle.packing.proofs.bits.unpack_bits.Tie as tie
 
@@ -18,7 +19,7 @@ record Going (bits : ℕ) (xs row₀ row : List ℕ) (i : ℕ) (c : Cursor) : Ty
   long : length row ≡ length row₀
   place : 8 * c .at + c .bit ≡ i * bits
   inside : c .bit < 8
-  written : Filled bits xs row i
+  written : Filled 0 (packedAt bits xs) row i
 
 abbrev Inv-loop : tie.InvT-loop
 Inv-loop packed bits row₀ c₀ i₀ row c i = Going bits packed row₀ row i c
@@ -60,7 +61,7 @@ loop-again c =
       place = omega (arith, e .place, g .place, next-place (l .i) (s .args .bits));
       inside = e .inside;
       written =
-          written-set (s .args .bits) xs (l .row) (l .i) (c .before .number .result .value) (omega arith)
+          filled-set 0 (packedAt (s .args .bits) xs) (l .row) (l .i) (c .before .number .result .value) (omega arith)
           (e .value ∙ ap (λ (from : ℕ). bitsFrom xs from (s .args .bits)) (g .place))
           (g .written);
     }
@@ -69,10 +70,11 @@ same-length : tie.Need-same-length Inv-loop μ-loop
 same-length c = omega arith
 
 returns : tie.Need-returns Inv-loop μ-loop
+unfolding unpacked
 returns c =
     let s = c .before .before .before .before in
     let l = c .before .loop in
-    all-written (s .args .bits) (now (s .args .packed)) (l .row) (l .i) (length (now (s .args .row))) (l .inv .written) (omega arith) (l .inv .long)
+    all-filled 0 (packedAt (s .args .bits) (now (s .args .packed))) (l .row) (l .i) (length (now (s .args .row))) (l .inv .written) (omega arith) (l .inv .long)
 
 pub unpack-bits-spec : {M : Type 1} → statement M
 unpack-bits-spec =

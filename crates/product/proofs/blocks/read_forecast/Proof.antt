@@ -1,7 +1,7 @@
 use Rattle.octets.proofs.Free.{free}
 use mathlib.Core.List.{_∷_, []}
 use mathlib.Core.Path.{_∙_}
-use Rattle.octets.proofs.Signs.{kept}
+use Rattle.octets.proofs.Signs.{kept32}
 use Rattle.layout.specs.Fields.{valuesOf, placed, plain, is}
 use Rattle.product.specs.Blocks.{forecast, forecastIn}
 use borrow.Author.Needs.{needs}
@@ -12,7 +12,7 @@ returns : tie.Need-returns
 unfolding valuesOf placed forecast forecastIn
 returns c =
     λ i. plain (c .before .u8-at .ensures i)
-    ∷ is ((kept (c .signed32-at .result) (c .signed32-at .ok) ∙ c .signed32-at .ensures) i)
+    ∷ is ((kept32 (c .signed32-at .result) (c .signed32-at .ok) ∙ c .signed32-at .ensures) i)
     ∷ []
 
 pub read-forecast-spec : {M : Type 1} → statement M

@@ -1,30 +1,25 @@
 -- `show_slot`: 0, or 34 and the values of the card.
 -- Assumes nothing.
-use Prim.Native.Nat.{_≤_}
 use native.Mathlib.Omega.{arith}
-use mathlib.Core.Path.{_≡_, refl, sym, ap, _∙_}
+use mathlib.Core.Path.{_≡_, sym, ap, _∙_}
 use mathlib.Core.Bool.{true, false}
-use mathlib.Core.List.{List, [], _∷_, _++_, map}
+use mathlib.Core.List.{List, [], _∷_, map}
 use lib.IntN.{ℤ, pos}
-use lib.ListN.{length, drop, set, length-set}
+use lib.ListN.{length-set}
+use lib.Seq.{sets}
 use borrow.Author.Needs.{needs}
 use borrow.Author.Tests.{not-true, not-false}
 use denote.Ref.{now}
 use mir.Syntax.{w64}
-use mir.Val.{toZ}
 use mir.ValLaws.{toZ-pos}
 use Rattle.octets.specs.Octets.{part}
 use Rattle.shelf.specs.declared.Slot.{Slot}
-use Rattle.text.proofs.Sizes.{wide, wide-kept, wide-fits}
-use Rattle.values.specs.Records.{withCount}
+use Rattle.octets.proofs.Signs.{wide-kept, wide-fits}
+use Rattle.lent.specs.Lent.{withCount}
+use Rattle.lent.proofs.Rows.{sets-both, sets-over}
 use Rattle.skogmund.specs.Shelves.{cardValues, slotNumbers}
-use Rattle.skogmund.proofs.Kept.{card-over}
 use Rattle.skogmund.proofs.shelves.show_slot.Statement.{statement}
 use Rattle.skogmund.proofs.shelves.show_slot.Tie as tie
-
-first-set : (l : List ℤ) (z : ℤ) → 64 ≤ length l → set l 0 z ≡ z ∷ drop 1 l
-first-set [] z h = absurd (omega arith)
-first-set (x ∷ l) z h = refl
 
 none-held : (x : Slot) → x .held ≡ false → slotNumbers x ≡ []
 unfolding slotNumbers
@@ -38,7 +33,7 @@ returns : tie.Need-returns
 unfolding withCount
 returns c =
     let s = c .before .before in
-    first-set (now (s .args .values)) (pos 0) (s .pre)
+    sets-over (pos 0 ∷ []) (now (s .args .values)) (omega (arith, s .pre))
     ∙ ap (λ (ns : List ℤ). withCount ns (now (s .args .values))) (sym (none-held (s .args .slot) (not-true (s .args .slot .held) (c .if1 .taken))))
 
 cast-values : tie.Need-cast-values
@@ -67,8 +62,9 @@ returns-2 c =
     let issue = toZ-pos w64 (x .issue) (omega (arith, known .1 .1 .1 .1 .1 .0)) in
     let year = wide-kept (x .year) (told .struct-told .given .0 .1) in
     p .show-product .ensures
-    ∙ card-over v₀ (pos 34 ∷ wide (x .year) ∷ toZ w64 (x .month) ∷ toZ w64 (x .day) ∷ toZ w64 (x .hour) ∷ toZ w64 (x .minute) ∷ toZ w64 (x .second) ∷ toZ w64 (x .issue) ∷ []) m refl (s .pre)
-    ∙ (λ i. pos 34 ∷ year i ∷ month i ∷ day i ∷ hour i ∷ minute i ∷ second i ∷ issue i ∷ (m ++ drop 35 v₀))
+    ∙ (λ i. sets (sets v₀ 0 (pos 34 ∷ year i ∷ month i ∷ day i ∷ hour i ∷ minute i ∷ second i ∷ issue i ∷ [])) 8 m)
+    ∙ sets-both (pos 34 ∷ x .year ∷ pos (x .month) ∷ pos (x .day) ∷ pos (x .hour) ∷ pos (x .minute) ∷ pos (x .second) ∷ pos (x .issue) ∷ []) m v₀ 0
+    ∙ sets-over (pos 34 ∷ cardValues x) v₀ (omega (arith, s .pre))
     ∙ ap (λ (ns : List ℤ). withCount ns v₀) (sym (card-held (s .args .slot) (not-false (s .args .slot .held) (e .if1 .left))))
 
 pub show-slot-spec : {M : Type 1} → statement M

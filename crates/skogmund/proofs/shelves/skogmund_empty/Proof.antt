@@ -5,9 +5,9 @@ use borrow.Author.Needs.{needs}
 use borrow.Author.Tests.{eq-eqb, ne-eqb}
 use denote.Ref.{now}
 use Rattle.octets.proofs.Free.{free}
-use Rattle.shelf_octets.specs.ShelfOctets.{octetsOf}
+use Rattle.shelf_octets.specs.ShelfOctets.{asOctets}
 use Rattle.shelf_octets.proofs.Laws.{empty-zeros}
-use Rattle.values.specs.Lent.{done}
+use Rattle.lent.specs.Lent.{done}
 use Rattle.skogmund.specs.Shelves.{emptied}
 use Rattle.skogmund.proofs.Kept.{written-over}
 use Rattle.skogmund.proofs.shelves.skogmund_empty.Statement.{statement}
@@ -25,7 +25,7 @@ returns-2 c =
     simp (eq-eqb _ _ (e .if1 .left))
     (ap (done 0)
     (written-over (now (e .before .before .args .shelf)) (w .before .empty .result) (e .if1 .left) (w .write .ensures)
-    ∙ ap octetsOf (w .before .empty .ensures)
+    ∙ ap asOctets (w .before .empty .ensures)
     ∙ empty-zeros))
 
 pub skogmund-empty-spec : {M : Type 1} → statement M

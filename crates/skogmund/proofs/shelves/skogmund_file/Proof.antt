@@ -13,7 +13,7 @@ use Rattle.filing.specs.declared.Issue.{Issue}
 use Rattle.filing.specs.declared.Filed.{Filed}
 use Rattle.filing.specs.Filing.{filedOf}
 use Rattle.queue.specs.Records.{issueFrom}
-use Rattle.skogmund.specs.Entries.{doneBoth}
+use Rattle.lent.specs.Lent.{doneBoth}
 use Rattle.skogmund.specs.Shelves.{fieldKept, filedField}
 use Rattle.filing.proofs.RefusalNumbers.{filing-refuses}
 use Rattle.skogmund.proofs.shelves.skogmund_file.Statement.{statement}
@@ -56,17 +56,17 @@ returns-2 : tie.Need-returns-2
 unfolding filedField fieldKept
 returns-2 c =
     let k = c .before .before .before .before in
-    let told = k .before .before .before in
+    let told = k .before .before .before .before in
     let f = told .before .before .before in
-    rw (le-ltb _ _ (stored-small f), ← filed-is f, told .enum-told .given .1) (k .keep-flag .ensures)
+    rw (le-ltb _ _ (stored-small f), ← filed-is f, told .enum-told .given .1) (k .keep .ensures)
 
 returns-3 : tie.Need-returns-3
 unfolding filedField fieldKept
 returns-3 c =
     let k = c .before .before .before .before in
-    let told = k .before .before .before in
+    let told = k .before .before .before .before in
     let f = told .before .before .before in
-    rw (le-ltb _ _ (stored-small f), ← filed-is f, told .enum-told2 .given .1) (k .keep-flag2 .ensures)
+    rw (le-ltb _ _ (stored-small f), ← filed-is f, told .enum-told2 .given .1) (k .keep2 .ensures)
 
 returns-4 : tie.Need-returns-4
 unfolding filedField fieldKept
@@ -85,7 +85,9 @@ skogmund-file-spec =
     free
     free
     (λ c. search needs)
+    (λ c. search needs)
     free
+    (λ c. search needs)
     (λ c. search needs)
     free
     (λ c. search needs)

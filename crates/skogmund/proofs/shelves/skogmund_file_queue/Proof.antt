@@ -9,7 +9,7 @@ use Rattle.shelf.specs.declared.Shelf.{Shelf}
 use Rattle.shelf_octets.specs.ShelfOctets.{shelfIn}
 use Rattle.queue.specs.declared.QueueFiled.{QueueFiled}
 use Rattle.queue.specs.Queues.{queueFiled}
-use Rattle.skogmund.specs.Entries.{doneBoth}
+use Rattle.lent.specs.Lent.{doneBoth}
 use Rattle.skogmund.specs.Shelves.{queueKept, filedQueue}
 use Rattle.queue.proofs.RefusalNumbers.{queue-refuses}
 use Rattle.skogmund.proofs.shelves.skogmund_file_queue.Statement.{statement}
@@ -31,9 +31,9 @@ returns : tie.Need-returns
 unfolding filedQueue queueKept
 returns c =
     let k = c .before .before .before .before in
-    let a = k .before .before .before .before in
+    let a = k .before .before .before .before .before in
     let f = a .before .before .before in
-    rw (← filed-is f, a .answer .given .1) (k .keep-counts .ensures)
+    rw (← filed-is f, a .answer .given .1) (k .keep .ensures)
 
 returns-2 : tie.Need-returns-2
 unfolding filedQueue queueKept
@@ -48,6 +48,7 @@ skogmund-file-queue-spec =
     (tie.spec
     free
     free
+    (λ c. search needs)
     (λ c. search needs)
     free
     (λ c. search needs)

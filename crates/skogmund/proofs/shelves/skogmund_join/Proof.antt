@@ -6,8 +6,8 @@ use borrow.Author.Tests.{eq-eqb, ne-eqb}
 use denote.Ref.{now}
 use Rattle.octets.proofs.Free.{free}
 use Rattle.shelf.specs.Shelves.{joinShelf}
-use Rattle.shelf_octets.specs.ShelfOctets.{octetsOf}
-use Rattle.values.specs.Lent.{done}
+use Rattle.shelf_octets.specs.ShelfOctets.{asOctets}
+use Rattle.lent.specs.Lent.{done}
 use Rattle.skogmund.specs.Shelves.{joined}
 use Rattle.skogmund.proofs.Kept.{written-over}
 use Rattle.skogmund.proofs.shelves.skogmund_join.Statement.{statement}
@@ -33,7 +33,7 @@ returns-3 c =
     simp (eq-eqb _ _ (e1 .if1 .left), eq-eqb _ _ (e2 .if2 .left))
     (ap (done 0)
     (written-over (now (e1 .before .before .before .args .shelf)) (j .join .result) (e1 .if1 .left) (w .write .ensures)
-    ∙ ap octetsOf (j .join .ensures ∙ ap₂ joinShelf (ours .read .ensures) (theirs .read2 .ensures))))
+    ∙ ap asOctets (j .join .ensures ∙ ap₂ joinShelf (ours .read .ensures) (theirs .read2 .ensures))))
 
 pub skogmund-join-spec : {M : Type 1} → statement M
 skogmund-join-spec = tie.close (tie.spec returns returns-2 free free free free (λ c. search needs) returns-3)

@@ -6,8 +6,7 @@ use borrow.Author.Tests.{lt-ltb, le-ltb, eq-eqb, ne-eqb, le-leb, lt-leb}
 use denote.Ref.{now}
 use Rattle.octets.proofs.Free.{free}
 use Rattle.shelf.specs.declared.Slot.{Slot}
-use Rattle.values.specs.Lent.{done}
-use Rattle.values.specs.Records.{withCount}
+use Rattle.lent.specs.Lent.{done, withCount}
 use Rattle.skogmund.specs.Shelves.{slotNumbers, slotShown}
 use Rattle.skogmund.proofs.shelves.skogmund_slot.Statement.{statement}
 use Rattle.skogmund.proofs.shelves.skogmund_slot.Tie as tie

@@ -1,8 +1,8 @@
 use borrow.Author.Needs.{needs}
 use borrow.Author.Tests.{lt-ltb, le-ltb}
-use Rattle.text.specs.Text.{one, append}
-use Rattle.text.proofs.octet.Statement.{statement}
-use Rattle.text.proofs.octet.Tie as tie
+use Rattle.lent.specs.Written.{one, append}
+use Rattle.lent.proofs.octet.Statement.{statement}
+use Rattle.lent.proofs.octet.Tie as tie
 
 returns : tie.Need-returns
 unfolding append one

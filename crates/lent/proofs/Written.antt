@@ -1,17 +1,19 @@
--- Laws of text in a lent buffer.
+-- Octets written into a lent buffer.
 -- Assumes nothing.
 use mathlib.Core.Path.{_≡_, refl, ap, ap₂, sym, _∙_}
 use mathlib.Core.Bool.{Bool, true, false, cond}
 use mathlib.Core.List.{List, [], _∷_, _++_}
-use Prim.Native.Nat.{ℕ, suc, _+_, _-_, _≤_}
+use Prim.Native.Nat.{ℕ, suc, _+_, _-_, _≤_, _<_}
 use native.Mathlib.Omega.{arith}
 use native.Mathlib.Nat.{zero-add}
 use native.Mathlib.Numerals.{add-one}
 use lib.Dec.{ltb}
 use lib.ListN.{length, take, drop, set, length-set, length-append}
-use lib.Seq.{sets, sets-eq, take-nil}
+use lib.Seq.{sets, sets-eq, take-nil, take-at}
 use borrow.Author.Tests.{lt-ltb, le-ltb, ltb-true, ltb-false}
-use Rattle.text.specs.Text.{Written, written, one, append, startsWith}
+use Rattle.lent.specs.Lent.{over}
+use Rattle.lent.specs.Written.{Written, written, one, append, startsWith}
+use Rattle.lent.specs.Rows.{inTurn}
 
 -- two texts, one after the other
 pub append-both : (x : Written) (t u : List ℕ) → append x (t ++ u) ≡ append (append x t) u
@@ -82,6 +84,48 @@ pub append-whole : (out t : List ℕ) → length t ≤ length out → append (wr
 unfolding startsWith
 append-whole out t h = simp zero-add at (append-fits (written out 0) t (omega arith))
 
-pub starts-within : (out t : List ℕ) {y : Written} → y ≡ startsWith out t → y .at ≤ length (y .octets)
-unfolding startsWith
-starts-within out t e = rw e (simp length-append (omega arith))
+-- where it ends, and what then stands before and behind that
+module _ (out t : List ℕ) {y : Written} (e : y ≡ startsWith out t) where
+  pub starts-within : y .at ≤ length (y .octets)
+  unfolding startsWith
+  starts-within = rw e (simp length-append (omega arith))
+
+  pub starts-to : y .at ≡ length t
+  unfolding startsWith
+  starts-to = ap (λ (w : Written). w .at) e
+
+  pub starts-over : y .octets ≡ over out t
+  unfolding startsWith
+  starts-over = ap (λ (w : Written). w .octets) e
+
+  pub starts-front : take (y .at) (y .octets) ≡ t
+  starts-front = ap (take (y .at)) starts-over ∙ take-at t (drop (length t) out) (y .at) (sym starts-to)
+
+-- ---- a loop that writes piece after piece: what is left, written behind what is written so far, makes the whole
+
+pub record Writing (first : Written) (all : List ℕ) (here : Written) (rest : List ℕ) : Type 0 where
+  pub room : length (here .octets) ≡ length (first .octets)
+  pub left : append here rest ≡ append first all
+
+module _ (first : Written) (all : List ℕ) (x : Written) where
+  -- the next piece, and what is left then
+  pub writes-on : {y : Written} {rest : List ℕ} (t later : List ℕ) → Writing first all x rest → rest ≡ t ++ later → y ≡ append x t → Writing first all y later
+  writes-on t later w p e =
+      record {
+        room = ap (λ (z : Written). length (z .octets)) e ∙ same-room x t ∙ w .room;
+        left = ap (λ (z : Written). append z later) e ∙ sym (append-both x t later) ∙ sym (ap (append x) p) ∙ w .left;
+      }
+
+  pub writes-all : {rest : List ℕ} → Writing first all x rest → rest ≡ [] → x ≡ append first all
+  unfolding append
+  writes-all w e = sym (ap (append x) e) ∙ w .left
+
+-- the pieces of n numbers, from number i on
+module _ (f : ℕ → List ℕ) (n i : ℕ) where
+  pub next-in-turn : i < n → inTurn f i (n - i) ≡ f i ++ inTurn f (i + 1) (n - (i + 1))
+  unfolding inTurn
+  next-in-turn h = let more : n - i ≡ suc (n - (i + 1)) = omega arith in rw (more, add-one i)
+
+  pub none-in-turn : n ≤ i → inTurn f i (n - i) ≡ []
+  unfolding inTurn
+  none-in-turn h = let none : n - i ≡ 0 = omega arith in rw none

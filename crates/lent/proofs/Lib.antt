@@ -1,0 +1,5 @@
+pub mod Answers
+pub mod Written
+pub mod Rows
+pub mod Examples
+pub mod Entries
