@@ -132,7 +132,7 @@ pub(crate) fn decimal(word: &[u8]) -> usize
 }
 
 // What a hexadecimal digit stands for, and 0 for anything else.
-fn digit(c: u8) -> u8
+pub(crate) fn digit(c: u8) -> u8
     ensures { λ r. ⌜ r ≤ 15 ⌝ }
 {
     if c < b'0' {

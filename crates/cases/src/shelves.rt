@@ -1,5 +1,6 @@
 // Shelves: fields filed, one shelf joined to another, and what the slots then hold.
 use crate::lines;
+use crate::print;
 use filing::Answer;
 use filing::Filed;
 use filing::Issue;
@@ -44,14 +45,14 @@ pub(crate) fn run(line: &[u8], order: u8, shelves: Shelves) -> Shelves {
 
 fn show_answer(answer: Answer) {
     match answer {
-        Answer::Kept => output::text(b"kept"),
-        Answer::Passed => output::text(b"passed"),
-        Answer::Refused(x) => output::refusal(x),
+        Answer::Kept => print::text(b"kept"),
+        Answer::Passed => print::text(b"passed"),
+        Answer::Refused(x) => print::refusal(x),
     }
 }
 
 fn show_shelf(shelf: Shelf) {
-    output::text(b"held");
+    print::text(b"held");
     let mut i: usize = 0;
     while i < 64 {
         show_slot(shelf::slot_of(shelf, i), i);
@@ -64,20 +65,26 @@ fn show_slot(slot: Slot, i: usize) {
         return;
     }
     let card = slot.card;
-    output::number(b"slot", i as u64);
-    output::signed(b"year", card.year);
-    output::number(b"month", card.month as u64);
-    output::number(b"day", card.day as u64);
-    output::number(b"hour", card.hour as u64);
-    output::number(b"minute", card.minute as u64);
-    output::number(b"second", card.second as u64);
-    output::number(b"issue", card.issue as u64);
+    print::text(b" slot");
+    print::number(i as u64);
+    print::signed(wide(card.year));
+    print::number(card.month as u64);
+    print::number(card.day as u64);
+    print::number(card.hour as u64);
+    print::number(card.minute as u64);
+    print::number(card.second as u64);
+    print::number(card.issue as u64);
     let product = card.product;
     show_product(product);
 }
 
+fn wide(z: i32) -> i64 {
+    z as i64
+}
+
 fn show_product(product: [u8; 27]) {
-    output::list(b"product", &product);
+    print::text(b" ");
+    print::hexadecimal(&product);
 }
 
 fn file(line: &[u8], order: u8, shelf: Shelf) -> Filed {
