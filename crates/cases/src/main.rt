@@ -70,31 +70,25 @@ fn run_case(line: &[u8], section: u8) {
         run_unpacking(line);
         return;
     }
-    let mut octets = section_buffer();
-    let size = lines::section_of(line, 1, &mut octets);
-    let n = io::count(size as isize, &octets);
-    sections::show(lines::digit(section), &octets[..n]);
+    let mut room = section_buffer();
+    let n = lines::section_in(line, &mut room);
+    sections::show(lines::digit(section), octets::part_after(&room, 0, n));
 }
 
 fn run_unpacking(line: &[u8]) {
-    let first = lines::next(line, 0, b'/');
-    if first == line.len() {
-        return;
-    }
-    let rest = &line[first + 1..];
-    let second = lines::next(rest, 0, b'/');
-    if second == rest.len() {
-        return;
-    }
-    let mut five = section_buffer();
-    let size5 = lines::section_of(&line[0..first], 1, &mut five);
-    let n5 = io::count(size5 as isize, &five);
-    let mut seven = section_buffer();
-    let size7 = lines::section_of(&rest[0..second], 0, &mut seven);
-    let n7 = io::count(size7 as isize, &seven);
-    let places = lines::decimal(&rest[second + 1..]);
+    let behind_5 = lines::behind(line);
+    let mut room_5 = section_buffer();
+    let n5 = lines::section_in(line, &mut room_5);
+    let mut room_7 = section_buffer();
+    let n7 = lines::section_in(behind_5, &mut room_7);
+    let places = lines::decimal(lines::word(lines::behind(behind_5), 1));
     let mut row = row_buffer();
-    unpacking::show(&five[..n5], &seven[..n7], &mut row, places);
+    unpacking::show(
+        octets::part_after(&room_5, 0, n5),
+        octets::part_after(&room_7, 0, n7),
+        &mut row,
+        places,
+    );
 }
 
 // Room for a section that is longer than any may be, and for a row of as many values as any has. Each `ensures` gives only

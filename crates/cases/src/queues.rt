@@ -3,11 +3,11 @@ use crate::lines;
 use crate::print;
 
 pub(crate) fn show(line: &[u8]) {
-    let mut queue = crate::section_buffer();
-    let size = lines::section_of(line, 1, &mut queue);
-    let n = io::count(size as isize, &queue);
-    list(&queue[..n]);
-    explain(&queue[..n]);
+    let mut room = crate::section_buffer();
+    let n = lines::section_in(line, &mut room);
+    let queue = octets::part_after(&room, 0, n);
+    list(queue);
+    explain(queue);
 }
 
 fn list(queue: &[u8]) {

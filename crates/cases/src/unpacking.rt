@@ -4,21 +4,24 @@ use crate::print;
 use crate::sections;
 use packing::Unpacked;
 
-// Unpacks into the first `size` places of the row and shows them; shows nothing where the row has fewer.
-pub(crate) fn show(section5: &[u8], section7: &[u8], row: &mut [u32], size: usize) {
-    if row.len() < size {
-        return;
+// Unpacks into so many places of a row, where it has as many.
+pub(crate) fn show(section5: &[u8], section7: &[u8], row: &mut [u32], places: usize) {
+    if places <= row.len() {
+        show_row(section5, section7, &mut row[0..places]);
     }
+}
+
+fn show_row(section5: &[u8], section7: &[u8], row: &mut [u32]) {
     sections::show_values(7, section7);
     print::text(b" unpacked ");
-    let answer = packing::unpack(section5, section7, &mut row[0..size]);
+    let answer = packing::unpack(section5, section7, row);
     show_answer(answer);
     print::text(b" row");
-    if size <= 8 {
-        show_numbers(&row[0..size]);
+    if row.len() <= 8 {
+        show_numbers(row);
     } else {
         print::text(b" digest");
-        print::number(digest(&row[0..size]));
+        print::number(digest(row));
     }
 }
 
