@@ -45,7 +45,7 @@ fn wide(x: u8) -> u16 {
 }
 
 // The index of the next `byte` from index `from` on, or the text's length.
-pub(crate) fn next(text: &[u8], from: usize, byte: u8) -> usize
+fn next(text: &[u8], from: usize, byte: u8) -> usize
     ensures { λ r. ⌜ (r ≤ length (now (text .entry))) × (from ≤ length (now (text .entry)) → from ≤ r) ⌝ }
 {
     let mut i = from;
@@ -58,29 +58,6 @@ pub(crate) fn next(text: &[u8], from: usize, byte: u8) -> usize
     text.len()
 }
 
-// The section that a line says after its `from`th character, ` LENGTH OCTETS`, at the start of `out`; its length.
-pub(crate) fn section_of(line: &[u8], from: usize, out: &mut [u8]) -> usize
-    ensures { λ r. ⌜ r ≤ 5000000000 ⌝ }
-{
-    let gap = next(line, from, b' ');
-    if gap == line.len() {
-        return 0;
-    }
-    let start = gap + 1;
-    let end = next(line, start, b' ');
-    let size = decimal(&line[start..end]);
-    if end == line.len() {
-        return size;
-    }
-    let given = decode(&line[end + 1..], out);
-    if given == 0 {
-        return size;
-    }
-    let last = out[given - 1];
-    fill(out, given, size, last);
-    size
-}
-
 // What stands behind the next `/`, and nothing if there is none.
 pub(crate) fn behind(line: &[u8]) -> &[u8] {
     let end = next(line, 0, b'/');
@@ -88,12 +65,6 @@ pub(crate) fn behind(line: &[u8]) -> &[u8] {
         return &line[..0];
     }
     &line[end + 1..]
-}
-
-// The section that a text says up to the next `/`, ` LENGTH OCTETS`, at the start of `out`; its length.
-pub(crate) fn section_in(text: &[u8], out: &mut [u8]) -> usize {
-    let end = next(text, 0, b'/');
-    section_of(&text[0..end], 0, out)
 }
 
 // The characters of a line from index `from` up to the next space.
@@ -114,6 +85,19 @@ pub(crate) fn after_word(line: &[u8], from: usize) -> &[u8] {
     &line[end..]
 }
 
+// The section whose length and octets are the two words behind the first, at the start of `out`; its length.
+pub(crate) fn section_in(text: &[u8], out: &mut [u8]) -> usize {
+    let said = after_word(text, 0);
+    let size = decimal(word(said, 1));
+    let given = decode(word(after_word(said, 1), 1), out);
+    if given == 0 {
+        return size;
+    }
+    let last = out[given - 1];
+    fill(out, given, size, last);
+    size
+}
+
 // A decimal number, as far as it is at most 5,000,000,000.
 pub(crate) fn decimal(word: &[u8]) -> usize
     ensures { λ r. ⌜ r ≤ 5000000000 ⌝ }
@@ -132,7 +116,7 @@ pub(crate) fn decimal(word: &[u8]) -> usize
 }
 
 // What a hexadecimal digit stands for, and 0 for anything else.
-fn digit(c: u8) -> u8
+pub(crate) fn digit(c: u8) -> u8
     ensures { λ r. ⌜ r ≤ 15 ⌝ }
 {
     if c < b'0' {

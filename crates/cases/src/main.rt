@@ -1,19 +1,20 @@
 // Runs the readers over cases from standard input and prints what each answers, one line for a case, so that it can be
 // compared with what document 01 says. A line of input is `SECTION LENGTH OCTETS`: the reader to ask, the length of the
-// section to lend it, and its octets in hexadecimal, of which the last stands for the rest. For unpacking it is
-// `7 LENGTH OCTETS / LENGTH OCTETS / PLACES`: section 5, section 7, and the places of the row, each of which holds 9 before. A
-// line that starts with `#` is printed as it is. Lines that start with a letter file fields and join shelves (`shelves`), but for
-// `q LENGTH OCTETS`: a queue, of which the listing and the explanation are printed (`queues`).
+// section to lend it, and its octets in hexadecimal, of which the last stands for the rest; printed are the row of its values and the
+// parts (`sections`). For unpacking it is `7 LENGTH OCTETS / LENGTH OCTETS / PLACES`: section 5, section 7, and the places of the row,
+// each of which holds 9 before (`unpacking`). A line that starts with `#` is printed as it is. Lines that start with a letter file fields
+// and join shelves (`shelves`), but for `q LENGTH OCTETS`: a queue, of which the listing and the explanation are printed (`queues`).
 ghost use mathlib.Core.Path.{_≡_};
 ghost use lib.ListN.{length};
 use shelf::Shelf;
 use shelves::Shelves;
 
 mod lines;
+mod print;
 mod queues;
-mod section1;
-mod section5;
+mod sections;
 mod shelves;
+mod unpacking;
 
 fn main() {
     let mut line = io::large_buffer();
@@ -44,13 +45,13 @@ fn run_line(line: &[u8], shelves: Shelves) -> Shelves {
     }
     let order = line[0];
     let after = run_order(line, order, shelves);
-    output::text(b"\n");
+    print::text(b"\n");
     after
 }
 
 fn run_order(line: &[u8], order: u8, shelves: Shelves) -> Shelves {
     if order == b'#' {
-        output::text(line);
+        print::text(line);
         return shelves;
     }
     if order == b'q' {
@@ -69,41 +70,25 @@ fn run_case(line: &[u8], section: u8) {
         run_unpacking(line);
         return;
     }
-    let mut octets = section_buffer();
-    let size = lines::section_of(line, 1, &mut octets);
-    let n = io::count(size as isize, &octets);
-    if section == b'1' {
-        section1::show(&octets[..n]);
-    } else if section == b'3' {
-        show_grid::show(&octets[..n]);
-    } else if section == b'4' {
-        show_product::show(&octets[..n]);
-    } else if section == b'5' {
-        section5::show(&octets[..n]);
-    } else {
-        output::text(b"no such reader");
-    }
+    let mut room = section_buffer();
+    let n = lines::section_in(line, &mut room);
+    sections::show(lines::digit(section), octets::part_after(&room, 0, n));
 }
 
 fn run_unpacking(line: &[u8]) {
-    let first = lines::next(line, 0, b'/');
-    if first == line.len() {
-        return;
-    }
-    let rest = &line[first + 1..];
-    let second = lines::next(rest, 0, b'/');
-    if second == rest.len() {
-        return;
-    }
-    let mut five = section_buffer();
-    let size5 = lines::section_of(&line[0..first], 1, &mut five);
-    let n5 = io::count(size5 as isize, &five);
-    let mut seven = section_buffer();
-    let size7 = lines::section_of(&rest[0..second], 0, &mut seven);
-    let n7 = io::count(size7 as isize, &seven);
-    let places = lines::decimal(&rest[second + 1..]);
+    let behind_5 = lines::behind(line);
+    let mut room_5 = section_buffer();
+    let n5 = lines::section_in(line, &mut room_5);
+    let mut room_7 = section_buffer();
+    let n7 = lines::section_in(behind_5, &mut room_7);
+    let places = lines::decimal(lines::word(lines::behind(behind_5), 1));
     let mut row = row_buffer();
-    section5::show_row(&five[..n5], &seven[..n7], &mut row, places);
+    unpacking::show(
+        octets::part_after(&room_5, 0, n5),
+        octets::part_after(&room_7, 0, n7),
+        &mut row,
+        places,
+    );
 }
 
 // Room for a section that is longer than any may be, and for a row of as many values as any has. Each `ensures` gives only

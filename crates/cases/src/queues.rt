@@ -1,18 +1,19 @@
 // Queues: the listing and the explanation of one, as the two programs print them.
 use crate::lines;
+use crate::print;
 
 pub(crate) fn show(line: &[u8]) {
-    let mut queue = crate::section_buffer();
-    let size = lines::section_of(line, 1, &mut queue);
-    let n = io::count(size as isize, &queue);
-    list(&queue[..n]);
-    explain(&queue[..n]);
+    let mut room = crate::section_buffer();
+    let n = lines::section_in(line, &mut room);
+    let queue = octets::part_after(&room, 0, n);
+    list(queue);
+    explain(queue);
 }
 
 fn list(queue: &[u8]) {
     let mut text = report::listing_buffer();
     let end = report::whole_listing(queue, &mut text);
-    output::text(&text[..end]);
+    print::text(&text[..end]);
 }
 
 fn explain(queue: &[u8]) {
@@ -24,10 +25,10 @@ fn explain(queue: &[u8]) {
 // Of more than 4,000 octets the first 1,000 and the last 200.
 fn print_short(text: &[u8]) {
     if text.len() <= 4000 {
-        output::text(text);
+        print::text(text);
         return;
     }
-    output::text(octets::part_after(text, 0, 1000));
-    output::text(b"\n...\n");
-    output::text(octets::part_after(text, text.len() - 200, 200));
+    print::text(octets::part_after(text, 0, 1000));
+    print::text(b"\n...\n");
+    print::text(octets::part_after(text, text.len() - 200, 200));
 }

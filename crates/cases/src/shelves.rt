@@ -1,5 +1,6 @@
 // Shelves: fields filed, one shelf joined to another, and what the slots then hold.
 use crate::lines;
+use crate::print;
 use filing::Answer;
 use filing::Filed;
 use filing::Issue;
@@ -44,14 +45,14 @@ pub(crate) fn run(line: &[u8], order: u8, shelves: Shelves) -> Shelves {
 
 fn show_answer(answer: Answer) {
     match answer {
-        Answer::Kept => output::text(b"kept"),
-        Answer::Passed => output::text(b"passed"),
-        Answer::Refused(x) => output::refusal(x),
+        Answer::Kept => print::text(b"kept"),
+        Answer::Passed => print::text(b"passed"),
+        Answer::Refused(x) => print::refusal(x),
     }
 }
 
 fn show_shelf(shelf: Shelf) {
-    output::text(b"held");
+    print::text(b"held");
     let mut i: usize = 0;
     while i < 64 {
         show_slot(shelf::slot_of(shelf, i), i);
@@ -64,44 +65,61 @@ fn show_slot(slot: Slot, i: usize) {
         return;
     }
     let card = slot.card;
-    output::number(b"slot", i as u64);
-    output::signed(b"year", card.year);
-    output::number(b"month", card.month as u64);
-    output::number(b"day", card.day as u64);
-    output::number(b"hour", card.hour as u64);
-    output::number(b"minute", card.minute as u64);
-    output::number(b"second", card.second as u64);
-    output::number(b"issue", card.issue as u64);
+    print::text(b" slot");
+    print::number(i as u64);
+    print::signed(wide(card.year));
+    print::number(card.month as u64);
+    print::number(card.day as u64);
+    print::number(card.hour as u64);
+    print::number(card.minute as u64);
+    print::number(card.second as u64);
+    print::number(card.issue as u64);
     let product = card.product;
     show_product(product);
 }
 
+fn wide(z: i32) -> i64 {
+    z as i64
+}
+
 fn show_product(product: [u8; 27]) {
-    output::list(b"product", &product);
+    print::text(b" ");
+    print::hexadecimal(&product);
 }
 
 fn file(line: &[u8], order: u8, shelf: Shelf) -> Filed {
     let r1 = lines::behind(line);
-    let r3 = lines::behind(r1);
-    let r4 = lines::behind(r3);
-    let r5 = lines::behind(r4);
-    let r7 = lines::behind(r5);
     let mut b1 = crate::section_buffer();
     let n1 = lines::section_in(r1, &mut b1);
+    let r3 = lines::behind(r1);
     let mut b3 = crate::section_buffer();
     let n3 = lines::section_in(r3, &mut b3);
+    let r4 = lines::behind(r3);
     let mut b4 = crate::section_buffer();
     let n4 = lines::section_in(r4, &mut b4);
-    let mut b5 = crate::section_buffer();
-    let n5 = lines::section_in(r5, &mut b5);
-    let mut b7 = crate::section_buffer();
-    let n7 = lines::section_in(r7, &mut b7);
-    let slot = lines::decimal(lines::word(line, 2));
     let s1 = octets::part_after(&b1, 0, n1);
     let s3 = octets::part_after(&b3, 0, n3);
     let s4 = octets::part_after(&b4, 0, n4);
+    file_with(line, lines::behind(r4), order, shelf, s1, s3, s4)
+}
+
+// The same, where section 5 is the first that `text` says.
+fn file_with<'a>(
+    line: &'a [u8],
+    text: &'a [u8],
+    order: u8,
+    shelf: Shelf,
+    s1: &'a [u8],
+    s3: &'a [u8],
+    s4: &'a [u8],
+) -> Filed {
+    let mut b5 = crate::section_buffer();
+    let n5 = lines::section_in(text, &mut b5);
+    let mut b7 = crate::section_buffer();
+    let n7 = lines::section_in(lines::behind(text), &mut b7);
     let s5 = octets::part_after(&b5, 0, n5);
     let s7 = octets::part_after(&b7, 0, n7);
+    let slot = lines::decimal(lines::word(line, 2));
     if order == b'b' {
         return filing::bench_reload(shelf, slot, s1, s3, s4, s5, s7);
     }

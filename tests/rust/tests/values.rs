@@ -1,8 +1,8 @@
 //! docs/VALUES.md against the reference: index, octets, name and kind of each value of each template, the counts, and a slot's values.
 use skogmund_tests::examples::{four_by_three, section1, section4, section5, section7};
-use skogmund_tests::reference::fields::{block, rows, Block, Field, Rule};
 use skogmund_tests::reference::head::HEAD;
 use skogmund_tests::reference::shelf::Card;
+use skogmund_tests::reference::table::{block, rows, Block, Field, Rule};
 use skogmund_tests::reference::{grid, identification, packing, product};
 use std::collections::BTreeMap;
 

@@ -1,8 +1,8 @@
 //! Ways to damage a section or a queue.
 use super::sections::{close, edge, put};
 use super::Rng;
-use crate::reference::fields::{rows, Field};
 use crate::reference::octets::number;
+use crate::reference::table::{rows, Field};
 use crate::reference::{grid, identification, packing, product, MOST_OCTETS};
 
 /// Lengths at which some rule begins or ends.

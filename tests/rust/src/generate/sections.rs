@@ -1,8 +1,8 @@
 //! Sections that are accepted, built from the tables of the fields.
 use super::Rng;
-use crate::reference::fields::{rows, Block, Meaning, Rule};
 use crate::reference::octets::{all_ones, number};
 use crate::reference::packing::data_length;
+use crate::reference::table::{rows, Block, Meaning, Rule};
 use crate::reference::{grid, identification, packing, product, MOST_OCTETS};
 
 pub const MISSING: u64 = 0xffff_ffff;

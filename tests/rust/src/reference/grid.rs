@@ -1,7 +1,7 @@
 //! Section 3.
-use super::fields::{self, block, octet, span, Block, Field, Record, Rule};
 use super::head::{look_at_head, look_up, HEAD};
 use super::octets::number;
+use super::table::{self, block, octet, span, Block, Field, Record, Rule};
 use super::{refuse_if, Outcome};
 
 const SECTION: u8 = 3;
@@ -82,7 +82,7 @@ pub const TEMPLATES: &[Template] = &[
             block(FRONT),
             block(BASE),
             block(POLE),
-            fields::shifted(POLE_OCTETS, POLE),
+            table::shifted(POLE_OCTETS, POLE),
         ],
     },
 ];
@@ -153,7 +153,7 @@ pub fn read(s: &[u8]) -> Outcome<Grid> {
     let template = look_up(s, SECTION, TEMPLATE_AT, TEMPLATES, |template| {
         (template.number, template.base_end)
     })?;
-    let record = fields::read(s, SECTION, template.blocks)?;
+    let record = table::read(s, SECTION, template.blocks)?;
     refuse_if(!agree(&record), 10, SECTION)?;
     let list = list_of(&record, template.base_end);
     refuse_if(s.len() as u64 != list.total(), 11, SECTION)?;
@@ -179,7 +179,7 @@ mod tests {
     #[test]
     fn tables_end_where_the_document_says() {
         for template in TEMPLATES {
-            assert_eq!(fields::end_of(template.blocks), Some(template.base_end));
+            assert_eq!(table::end_of(template.blocks), Some(template.base_end));
         }
     }
 

@@ -1,6 +1,6 @@
 //! What comes before the fields in each section: refusals 1 to 7.
-use super::fields::{octet, span, Field, Rule};
 use super::octets::number;
+use super::table::{octet, span, Field, Rule};
 use super::{refuse_if, Outcome, Refusal, MOST_OCTETS};
 
 /// The two fields that every section begins with.

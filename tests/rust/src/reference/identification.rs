@@ -1,6 +1,6 @@
 //! Section 1.
-use super::fields::{self, block, octet, span, Block, Field, Record, Rule};
 use super::head::{look_at_head, look_up, HEAD};
+use super::table::{self, block, octet, span, Block, Field, Record, Rule};
 use super::{refuse_if, Outcome};
 
 const SECTION: u8 = 1;
@@ -149,7 +149,7 @@ fn form_of(s: &[u8]) -> Outcome<&'static Form> {
 pub fn read(s: &[u8]) -> Outcome<Identification> {
     look_at_head(s, SECTION)?;
     let form = form_of(s)?;
-    let record = fields::read(s, SECTION, form.blocks)?;
+    let record = table::read(s, SECTION, form.blocks)?;
     refuse_if(s.len() != form.total, 11, SECTION)?;
     let offset = form.offset_at.map_or(0, |at| record.number(at));
     Ok(Identification {
@@ -175,9 +175,9 @@ mod tests {
 
     #[test]
     fn tables_end_where_the_document_says() {
-        assert_eq!(fields::end_of(WITHOUT_TEMPLATE.blocks), Some(21));
+        assert_eq!(table::end_of(WITHOUT_TEMPLATE.blocks), Some(21));
         for form in WITH_TEMPLATE {
-            assert_eq!(fields::end_of(form.blocks), Some(form.total));
+            assert_eq!(table::end_of(form.blocks), Some(form.total));
         }
     }
 

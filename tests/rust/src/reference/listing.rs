@@ -1,6 +1,6 @@
-//! What the listing program prints.
-use super::queue::{counts, file_queue, Fates};
-use super::shelf::{Card, Shelf};
+//! What the two programs print of a queue: the listing and the explanation.
+use super::queue::{counts, file_queue, records, Fates, QueueRecord};
+use super::shelf::{Card, Filed, Shelf};
 use super::{Outcome, Refusal};
 
 const HEADING: &str = "slot year month day hour minute second issue template\n";
@@ -38,6 +38,39 @@ pub fn listing(queue: &[u8]) -> String {
     listing_and_fates(queue).0
 }
 
+const EXPLAINED: &str = "record slot issue fate\n";
+
+/// A record's line; an issue that is not named is a dash.
+fn record_line((place, (record, fate)): (usize, (&QueueRecord, &Outcome<Filed>))) -> String {
+    let issue = record
+        .issue
+        .map_or("-".to_string(), |issue| issue.to_string());
+    let fate = match fate {
+        Ok(Filed::Kept) => "kept".to_string(),
+        Ok(Filed::Passed) => "passed".to_string(),
+        Err(refusal) => {
+            let Refusal {
+                number,
+                section,
+                place,
+            } = refusal;
+            format!("refused {number} {section} {place}")
+        }
+    };
+    format!("{place} {} {issue} {fate}\n", record.slot)
+}
+
+/// What became of each record, from an empty shelf.
+pub fn explanation(queue: &[u8]) -> String {
+    match (records(queue), file_queue(&mut Shelf::empty(), queue)) {
+        (Ok(records), Ok(fates)) => {
+            let lines = (1..).zip(records.iter().zip(&fates)).map(record_line);
+            EXPLAINED.to_string() + &lines.collect::<String>() + &counts_line(&fates)
+        }
+        (_, refused) => text(&refused, &Shelf::empty()),
+    }
+}
+
 #[cfg(test)]
 mod tests {
     use super::*;
@@ -56,7 +89,11 @@ mod tests {
 
     #[test]
     fn refused_records() {
-        let expected = format!("{HEADING}kept 0 passed 0 refused 2\n");
-        assert_eq!(listing(&[64, 0, 0, 0, 0, 0]), expected);
+        let queue = [64, 0, 0, 0, 1, 0];
+        let counts = "kept 0 passed 0 refused 2\n";
+        assert_eq!(listing(&queue), format!("{HEADING}{counts}"));
+        let lines = "1 64 - refused 20 0 0\n2 0 0 refused 20 0 0\n";
+        assert_eq!(explanation(&queue), format!("{EXPLAINED}{lines}{counts}"));
+        assert_eq!(explanation(&[0x80, 0x00]), "refused 19\n");
     }
 }

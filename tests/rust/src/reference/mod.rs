@@ -2,12 +2,11 @@
 //! the library. Octets count from 1 at the start of a section, as in the document.
 
 pub mod entries;
-pub mod fields;
+pub mod field;
 pub mod grid;
 pub mod head;
 pub mod identification;
 pub mod listing;
-pub mod message;
 pub mod octets;
 pub mod packing;
 pub mod parts;
@@ -15,8 +14,9 @@ pub mod product;
 pub mod queue;
 pub mod shelf;
 pub mod shelf_octets;
+pub mod table;
 
-pub use listing::listing;
+pub use listing::{explanation, listing};
 pub use packing::unpack;
 pub use parts::{part, Span};
 

@@ -1,6 +1,6 @@
 //! Sections 5 and 7, and unpacking.
-use super::fields::{self, block, octet, span, Block, Field, Record, Rule};
 use super::head::{look_at_head, look_up, HEAD};
+use super::table::{self, block, octet, span, Block, Field, Record, Rule};
 use super::{refuse_if, Outcome, Refusal};
 
 const DATA: u8 = 7;
@@ -45,7 +45,7 @@ pub fn read(s: &[u8]) -> Outcome<Packing> {
     let template = look_up(s, SECTION, TEMPLATE_AT, TEMPLATES, |template| {
         (template.number, template.total)
     })?;
-    let record = fields::read(s, SECTION, template.blocks)?;
+    let record = table::read(s, SECTION, template.blocks)?;
     refuse_if(s.len() != template.total, 11, SECTION)?;
     Ok(Packing {
         values: record.number(VALUES_AT) as u64,
@@ -57,7 +57,7 @@ pub fn read(s: &[u8]) -> Outcome<Packing> {
 /// Section 7 alone: 1 to 4.
 pub fn read_data(s: &[u8]) -> Outcome<Record> {
     look_at_head(s, DATA)?;
-    fields::read(s, DATA, &[block(HEAD)])
+    table::read(s, DATA, &[block(HEAD)])
 }
 
 /// The octets of section 7 for so many values of so many bits.
@@ -107,7 +107,7 @@ mod tests {
     #[test]
     fn tables_end_where_the_document_says() {
         for template in TEMPLATES {
-            assert_eq!(fields::end_of(template.blocks), Some(template.total));
+            assert_eq!(table::end_of(template.blocks), Some(template.total));
         }
     }
 

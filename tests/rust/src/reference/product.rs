@@ -1,7 +1,7 @@
 //! Section 4.
-use super::fields::{self, block, octet, shifted, span, Block, Field, Record, Rule};
 use super::head::{look_at_head, look_up, HEAD};
 use super::identification::MONTH_TO_SECOND;
+use super::table::{self, block, octet, shifted, span, Block, Field, Record, Rule};
 use super::{refuse_if, Outcome};
 
 const SECTION: u8 = 4;
@@ -314,7 +314,7 @@ pub fn read(s: &[u8]) -> Outcome<Product> {
     let template = look_up(s, SECTION, TEMPLATE_AT, TEMPLATES, |template| {
         (template.number, template.smallest())
     })?;
-    let record = fields::read(s, SECTION, template.blocks)?;
+    let record = table::read(s, SECTION, template.blocks)?;
     let tail = tail_of(&record, template);
     refuse_if(template.n_at.is_some() && tail.n == 0, 9, SECTION)?;
     refuse_if(s.len() != tail.total(), 11, SECTION)?;
@@ -333,7 +333,7 @@ mod tests {
     #[test]
     fn tables_end_where_the_document_says() {
         for template in TEMPLATES {
-            assert_eq!(fields::end_of(template.blocks), Some(template.octets));
+            assert_eq!(table::end_of(template.blocks), Some(template.octets));
         }
     }
 
@@ -341,7 +341,7 @@ mod tests {
     fn counts_stand_where_the_document_says() {
         for template in TEMPLATES {
             let named = |name| {
-                fields::rows(template.blocks)
+                table::rows(template.blocks)
                     .find(|field| field.name == name)
                     .map(|field| field.first)
             };

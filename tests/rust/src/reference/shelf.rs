@@ -1,7 +1,7 @@
 //! Cards and the shelf.
-use super::message::FieldRead;
+use super::field::FieldRead;
 use super::octets::number;
-use super::{message, refuse_if, Outcome};
+use super::{field, refuse_if, Outcome};
 
 pub const SLOTS: usize = 64;
 const PRODUCT_FIRST: usize = 8;
@@ -36,7 +36,7 @@ impl Card {
     /// The card that filing takes to a slot: 16, the field's refusals, 17. A caller that names no issue gets issue 0.
     pub fn to_file(slot: u64, issue: Option<u32>, sections: [&[u8]; 5]) -> Outcome<Card> {
         refuse_if(slot >= SLOTS as u64, 16, 0)?;
-        let field = message::read(sections)?;
+        let field = field::read(sections)?;
         let calendar = field.identification.calendar.unwrap_or(GREGORIAN);
         refuse_if(calendar != GREGORIAN, 17, 1)?;
         Ok(Card::of(&field, issue.unwrap_or(0), sections[2]))
