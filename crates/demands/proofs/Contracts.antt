@@ -19,7 +19,7 @@ use prog.Routine.{Routine}
 use prog.Wp.{Heap}
 use Rattle.octets.specs.Octets.{beAt, part, signOf, realYear}
 use Rattle.layout.specs.Fields.{unsigned, signed, orMissing, means, between, notOnes, notZero, after, valuesOf, lowestBad}
-use Rattle.layout.specs.Outcomes.{refusal, noRefusal, headReasons, openingReasons, templateReasons, firstRefusal}
+use Rattle.layout.specs.Outcomes.{refusal, noRefusal, headReasons, openingReasons, fittingReasons, firstRefusal}
 use Rattle.layout.specs.Missing.{in32, inSigned}
 use Rattle.layout.specs.Time.{time, timeIn}
 use Rattle.layout.specs.Spans.{spanAfter}
@@ -65,7 +65,7 @@ use Rattle.layout.proofs.Refusal.none.Reads as refusal-none
 use Rattle.layout.proofs.Refusal.of.Reads as refusal-of
 use Rattle.layout.proofs.head_refusal.Reads as head-refusal
 use Rattle.layout.proofs.opening_refusal.Reads as opening-refusal
-use Rattle.layout.proofs.template_refusal.Reads as template-refusal
+use Rattle.layout.proofs.fitting_refusal.Reads as fitting-refusal
 use Rattle.layout.proofs.octet_within.Reads as octet-within
 use Rattle.layout.proofs.present16.Reads as present16
 use Rattle.layout.proofs.present32.Reads as present32
@@ -190,8 +190,8 @@ layout-head-refusal lent given r later e = e
 pub layout-opening-refusal : (lent : _) (given : _) (r : _) (later : _) → opening-refusal.Learnt lent given r later → r ≡ firstRefusal (given .1 .0) (openingReasons (given .1 .0) (given .1 .1 .0) (now (given .0)))
 layout-opening-refusal lent given r later e = e
 
-pub layout-template-refusal : (lent : _) (given : _) (r : _) (later : _) → template-refusal.Learnt lent given r later → r ≡ firstRefusal (given .1 .0) (templateReasons (given .1 .1 .0) (given .1 .1 .1 .0) (given .1 .1 .1 .1 .0) (given .1 .1 .1 .1 .1 .0) (now (given .0)))
-layout-template-refusal lent given r later e = e
+pub layout-fitting-refusal : (lent : _) (given : _) (r : _) (later : _) → fitting-refusal.Learnt lent given r later → r ≡ firstRefusal (given .1 .0) (fittingReasons (given .1 .1 .0) (given .1 .1 .1 .0) (given .1 .1 .1 .1 .0) (now (given .0)))
+layout-fitting-refusal lent given r later e = e
 
 pub layout-octet-within : (lent : _) (given : _) (r : _) (later : _) → octet-within.Learnt lent given r later → r ≡ cond (between (given .1 .1 .0) (given .1 .1 .1 .0) (beAt (now (given .0)) (given .1 .0) 1)) (given .1 .1 .1 .1 .0) (given .1 .0)
 layout-octet-within lent given r later e = e

@@ -33,8 +33,8 @@ use Rattle.layout.proofs.head_refusal.Statement as layout-head-refusal
 use Rattle.layout.proofs.head_refusal.Met as layout-head-refusal-met
 use Rattle.layout.proofs.opening_refusal.Statement as layout-opening-refusal
 use Rattle.layout.proofs.opening_refusal.Met as layout-opening-refusal-met
-use Rattle.layout.proofs.template_refusal.Statement as layout-template-refusal
-use Rattle.layout.proofs.template_refusal.Met as layout-template-refusal-met
+use Rattle.layout.proofs.fitting_refusal.Statement as layout-fitting-refusal
+use Rattle.layout.proofs.fitting_refusal.Met as layout-fitting-refusal-met
 use Rattle.layout.proofs.octet_within.Statement as layout-octet-within
 use Rattle.layout.proofs.octet_within.Met as layout-octet-within-met
 use Rattle.layout.proofs.present16.Statement as layout-present16
@@ -242,8 +242,8 @@ layout-head-refusal-ends = layout-head-refusal-met.met
 pub layout-opening-refusal-ends : {M : Type 1} → layout-opening-refusal.statement M
 layout-opening-refusal-ends = layout-opening-refusal-met.met
 
-pub layout-template-refusal-ends : {M : Type 1} → layout-template-refusal.statement M
-layout-template-refusal-ends = layout-template-refusal-met.met
+pub layout-fitting-refusal-ends : {M : Type 1} → layout-fitting-refusal.statement M
+layout-fitting-refusal-ends = layout-fitting-refusal-met.met
 
 pub layout-octet-within-ends : {M : Type 1} → layout-octet-within.statement M
 layout-octet-within-ends = layout-octet-within-met.met

@@ -26,7 +26,7 @@ use Rattle.layout.proofs.Refusal.none.Reads as layout-refusal-none
 use Rattle.layout.proofs.Refusal.of.Reads as layout-refusal-of
 use Rattle.layout.proofs.head_refusal.Reads as layout-head-refusal
 use Rattle.layout.proofs.opening_refusal.Reads as layout-opening-refusal
-use Rattle.layout.proofs.template_refusal.Reads as layout-template-refusal
+use Rattle.layout.proofs.fitting_refusal.Reads as layout-fitting-refusal
 use Rattle.layout.proofs.octet_within.Reads as layout-octet-within
 use Rattle.layout.proofs.present16.Reads as layout-present16
 use Rattle.layout.proofs.present32.Reads as layout-present32
@@ -158,8 +158,8 @@ layout-head-refusal-takes lent given = tt
 pub layout-opening-refusal-takes : TakesEvery layout-opening-refusal.Asked
 layout-opening-refusal-takes lent given = tt
 
-pub layout-template-refusal-takes : TakesEvery layout-template-refusal.Asked
-layout-template-refusal-takes lent given = tt
+pub layout-fitting-refusal-takes : TakesEvery layout-fitting-refusal.Asked
+layout-fitting-refusal-takes lent given = tt
 
 pub layout-octet-within-takes : TakesEvery layout-octet-within.Asked
 layout-octet-within-takes lent given = tt
