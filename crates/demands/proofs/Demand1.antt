@@ -26,7 +26,7 @@ pub use Rattle.skogmund.proofs.Entries as skogmund-entries
 pub use Rattle.demands.proofs.OneAnswer.{one-identification, one-grid, one-product, one-packing, one-data, one-field, one-unpacking, one-filing, one-answer, one-number, one-signed, one-time, one-written, one-done}
 -- ".. or refuses with a number from document 01.": its table lists the number for the section, and the place is 0 except with 8,
 -- and then an octet that a section can have.
-pub use Rattle.layout.proofs.Refusals.{head-told, opening-told, template-told}
+pub use Rattle.layout.proofs.Refusals.{head-told, opening-told, fitting-told}
 pub use Rattle.identification.proofs.RefusalNumbers.{identification-refuses}
 pub use Rattle.grid.proofs.RefusalNumbers.{grid-refuses}
 pub use Rattle.product.proofs.RefusalNumbers.{product-refuses}

@@ -3,7 +3,7 @@
 use mathlib.Core.Path.{refl}
 use Rattle.octets.specs.Octets.{part, be, beAt, digits, signOf}
 use Rattle.layout.specs.Fields.{between, placed, valuesOf, lowestBad}
-use Rattle.layout.specs.Outcomes.{firstOf, ifRead, openingReasons, totalReasons, templateReasons}
+use Rattle.layout.specs.Outcomes.{firstOf, ifRead, openingReasons, totalReasons, fittingReasons, templateReasons}
 use Rattle.layout.specs.Examples.{AllAgree}
 use Rattle.grid.specs.Blocks.{hasList, gridHead, earthSize, earth, counts, corners, common, poles}
 use Rattle.grid.specs.Templates.{fields₃, listCount, values₃, templateNumbered}
@@ -14,5 +14,5 @@ use Rattle.grid.specs.Views.{listSpan}
 use Rattle.grid.specs.Examples.{exampleSection, starredGrids}
 
 pub grids-agree : AllAgree starredGrids
-unfolding AllAgree exampleSection digits part be beAt signOf between placed valuesOf lowestBad firstOf ifRead openingReasons totalReasons templateReasons hasList gridHead earthSize earth counts corners common poles fields₃ missingWith agreedWithoutList agreedWithList agreed listCount sumOf pointsOf productAbove values₃ asTemplate templateNumbered outcome₃ listSpan
+unfolding AllAgree exampleSection digits part be beAt signOf between placed valuesOf lowestBad firstOf ifRead openingReasons totalReasons fittingReasons templateReasons hasList gridHead earthSize earth counts corners common poles fields₃ missingWith agreedWithoutList agreedWithList agreed listCount sumOf pointsOf productAbove values₃ asTemplate templateNumbered outcome₃ listSpan
 grids-agree = (refl, (refl, tt))

@@ -17,16 +17,18 @@ templateNumbered (suc zero) = Rotated
 templateNumbered (suc (suc zero)) = Stretched
 templateNumbered (suc (suc (suc n))) = StretchedAndRotated
 
+-- the one that a section names in octets 13-14
 abbrev pub templateNamed : List ℕ → Template
 templateNamed s = templateNumbered (beAt s 13 2)
 
+-- the last octet of the base
 abbrev pub baseEnd : Template → ℕ
 baseEnd LatLon = 72
 baseEnd Rotated = 84
 baseEnd Stretched = 84
 baseEnd StretchedAndRotated = 96
 
--- and behind the base the octets of the list
+-- octets 1 to 14, 15 to 72, the poles, and behind the base the octets of the list
 unfoldable pub fields₃ : Template → ℕ → List Field
 fields₃ template octets = gridHead ++ (common ++ (poles template ++ (shown octets ∷ [])))
 

@@ -60,11 +60,13 @@ pub fn refusal_of(answer: Answer) -> Refusal
 fn read_as(section: &[u8], template: Template) -> Answer
     ensures { λ r. ⌜ told r ≡ asTemplate template (now (section .entry)) ⌝ }
 {
-    let smallest = base_end(template);
+    if section.len() < base_end(template) {
+        return Answer::Refused(Refusal::of(7, 3));
+    }
     let bad = bad_place(section, template);
     let own = disagreement(section);
     let total = total_of(section, template);
-    let refused = layout::template_refusal(section, 3, smallest, bad, own, total);
+    let refused = layout::fitting_refusal(section, 3, bad, own, total);
     if refused.number != 0 {
         return Answer::Refused(refused);
     }

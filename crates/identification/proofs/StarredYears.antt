@@ -3,12 +3,12 @@
 use mathlib.Core.Path.{refl}
 use Rattle.octets.specs.Octets.{part, be, beAt, digits, signOf}
 use Rattle.layout.specs.Fields.{between, placed, valuesOf, lowestBad}
-use Rattle.layout.specs.Outcomes.{firstOf, openingReasons, totalReasons, templateReasons}
+use Rattle.layout.specs.Outcomes.{firstOf, openingReasons, totalReasons, fittingReasons, templateReasons}
 use Rattle.layout.specs.Examples.{AllAgree}
 use Rattle.layout.specs.Time.{time}
 use Rattle.identification.specs.Section1.{origin, statusAndType, fields₁, realYearAt, values₁, asTemplate, byNumber, byTemplate, outcome₁}
 use Rattle.identification.specs.Examples.{starredYears}
 
 pub years-agree : AllAgree starredYears
-unfolding AllAgree part be beAt digits signOf between placed valuesOf lowestBad firstOf openingReasons totalReasons templateReasons time origin statusAndType fields₁ realYearAt values₁ asTemplate byNumber byTemplate outcome₁
+unfolding AllAgree part be beAt digits signOf between placed valuesOf lowestBad firstOf openingReasons totalReasons fittingReasons templateReasons time origin statusAndType fields₁ realYearAt values₁ asTemplate byNumber byTemplate outcome₁
 years-agree = (refl, (refl, (refl, tt)))

@@ -101,8 +101,11 @@ fn read_as(section: &[u8], template: Template) -> Answer
     ensures { λ r. ⌜ told r ≡ asTemplate template (now (section .entry)) ⌝ }
 {
     let length = total_of(template);
+    if section.len() < length {
+        return Answer::Refused(Refusal::of(7, 1));
+    }
     let bad = bad_place(section, template);
-    let refused = layout::template_refusal(section, 1, length, bad, 0, length);
+    let refused = layout::fitting_refusal(section, 1, bad, 0, length);
     if refused.number != 0 {
         return Answer::Refused(refused);
     }

@@ -5,7 +5,7 @@ use mathlib.Core.Bool.{cond}
 use denote.Ref.{now}
 use Rattle.octets.specs.Octets.{beAt}
 use Rattle.layout.specs.Fields.{between, notOnes, notZero, unsigned, orMissing, means, signed, after, valuesOf, lowestBad}
-use Rattle.layout.specs.Outcomes.{noRefusal, refusal, headReasons, firstRefusal, openingReasons, templateReasons}
+use Rattle.layout.specs.Outcomes.{noRefusal, refusal, headReasons, firstRefusal, openingReasons, fittingReasons}
 use Rattle.layout.specs.Missing.{in32, inSigned}
 use Rattle.layout.specs.Time.{time, timeIn}
 use Rattle.layout.specs.Spans.{spanAfter}
@@ -24,8 +24,8 @@ head-refusal = record { takes = λ lent given. tt; ends = code.head_refusal.Met.
 pub opening-refusal : Entry code.opening_refusal.Reads.Asked code.opening_refusal.Reads.Learnt code.opening_refusal.Statement.statement (λ given r later. r ≡ firstRefusal (given .1 .0) (openingReasons (given .1 .0) (given .1 .1 .0) (now (given .0))))
 opening-refusal = record { takes = λ lent given. tt; ends = code.opening_refusal.Met.met; tells = λ lent given r later e. e }
 
-pub template-refusal : Entry code.template_refusal.Reads.Asked code.template_refusal.Reads.Learnt code.template_refusal.Statement.statement (λ given r later. r ≡ firstRefusal (given .1 .0) (templateReasons (given .1 .1 .0) (given .1 .1 .1 .0) (given .1 .1 .1 .1 .0) (given .1 .1 .1 .1 .1 .0) (now (given .0))))
-template-refusal = record { takes = λ lent given. tt; ends = code.template_refusal.Met.met; tells = λ lent given r later e. e }
+pub fitting-refusal : Entry code.fitting_refusal.Reads.Asked code.fitting_refusal.Reads.Learnt code.fitting_refusal.Statement.statement (λ given r later. r ≡ firstRefusal (given .1 .0) (fittingReasons (given .1 .1 .0) (given .1 .1 .1 .0) (given .1 .1 .1 .1 .0) (now (given .0))))
+fitting-refusal = record { takes = λ lent given. tt; ends = code.fitting_refusal.Met.met; tells = λ lent given r later e. e }
 
 pub octet-within : Entry code.octet_within.Reads.Asked code.octet_within.Reads.Learnt code.octet_within.Statement.statement (λ given r later. r ≡ cond (between (given .1 .1 .0) (given .1 .1 .1 .0) (beAt (now (given .0)) (given .1 .0) 1)) (given .1 .1 .1 .1 .0) (given .1 .0))
 octet-within = record { takes = λ lent given. tt; ends = code.octet_within.Met.met; tells = λ lent given r later e. e }

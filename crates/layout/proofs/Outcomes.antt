@@ -10,7 +10,7 @@ use lib.ListN.{length}
 use borrow.Author.Tests.{le-ltb, ltb-false, eqb-false, not-true}
 use Rattle.octets.specs.Octets.{beAt}
 use Rattle.layout.specs.Fields.{Value}
-use Rattle.layout.specs.Outcomes.{Reason, reason, Outcome, refused, read, refusal, refusalOf, refusedBy, ifRead, firstOf, firstRefusal, noRefusal, headReasons, openingReasons, totalReasons, templateReasons}
+use Rattle.layout.specs.Outcomes.{Reason, reason, Outcome, refused, read, refusal, refusalOf, refusedBy, ifRead, firstOf, firstRefusal, noRefusal, headReasons, openingReasons, totalReasons, fittingReasons, templateReasons}
 use Rattle.layout.specs.declared.Refusal.{Refusal}
 use Rattle.layout.proofs.Ranges.{test-same, same-test}
 
@@ -103,9 +103,9 @@ opening-numbered : (section least : ℕ) (s : List ℕ) → Numbered (openingRea
 unfolding Numbered openingReasons
 opening-numbered section least s = ((λ h. refl), ((λ h. refl), ((λ h. refl), ((λ h. refl), ((λ h. refl), tt)))))
 
-template-numbered : (smallest bad own total : ℕ) (s : List ℕ) → Numbered (templateReasons smallest bad own total s)
-unfolding Numbered templateReasons totalReasons
-template-numbered smallest bad own total s = ((λ h. refl), ((λ h. refl), (not-true _, ((λ h. refl), tt))))
+fitting-numbered : (bad own total : ℕ) (s : List ℕ) → Numbered (fittingReasons bad own total s)
+unfolding Numbered fittingReasons totalReasons
+fitting-numbered bad own total s = ((λ h. refl), (not-true _, ((λ h. refl), tt)))
 
 -- 5 behind the head's
 pub opening-by-head : (section least : ℕ) (s : List ℕ) → let head = firstRefusal section (headReasons section s) in firstRefusal section (openingReasons section least s) ≡ cond (eqb (head .number) 0) (cond (ltb (length s) least) (refusal 5 section 0) noRefusal) head
@@ -119,8 +119,15 @@ head-first section s o = by-refusal section (headReasons section s) o (head-numb
 pub opening-first : (section least : ℕ) (s : List ℕ) (o : Outcome) → firstOf section (openingReasons section least s) o ≡ cond (eqb (firstRefusal section (openingReasons section least s) .number) 0) o (refusedBy (firstRefusal section (openingReasons section least s)))
 opening-first section least s o = by-refusal section (openingReasons section least s) o (opening-numbered section least s)
 
-pub template-first : (section smallest bad own total : ℕ) (s : List ℕ) (o : Outcome) → firstOf section (templateReasons smallest bad own total s) o ≡ cond (eqb (firstRefusal section (templateReasons smallest bad own total s) .number) 0) o (refusedBy (firstRefusal section (templateReasons smallest bad own total s)))
-template-first section smallest bad own total s o = by-refusal section (templateReasons smallest bad own total s) o (template-numbered smallest bad own total s)
+pub template-first : (section smallest bad own total : ℕ) (s : List ℕ) (o : Outcome) → firstOf section (templateReasons smallest bad own total s) o ≡ cond (ltb (length s) smallest) (refused 7 section 0) (cond (eqb (firstRefusal section (fittingReasons bad own total s) .number) 0) o (refusedBy (firstRefusal section (fittingReasons bad own total s))))
+unfolding firstOf templateReasons
+template-first section smallest bad own total s o =
+    ap (cond (ltb (length s) smallest) (refused 7 section 0)) (by-refusal section (fittingReasons bad own total s) o (fitting-numbered bad own total s))
+
+-- where a reader is told none, its own number is not met
+pub none-own : (section bad own total : ℕ) (s : List ℕ) → firstRefusal section (fittingReasons bad own total s) .number ≡ 0 → own ≡ 0
+unfolding NoneHold fittingReasons
+none-own section bad own total s e = test-same _ _ (zero-none section (fittingReasons bad own total s) (fitting-numbered bad own total s) e .1 .0)
 
 -- ---- what it means that none of them holds
 
@@ -171,7 +178,7 @@ module _ (section : ℕ) (s : List ℕ) (o : Outcome) where
       first-append section (headReasons section s) five o ∙ ap (firstOf section (headReasons section s)) (none-last section five o (le-ltb _ _ l, tt)) ∙ head-last h
 
   pub template-read : (smallest bad own total : ℕ) (vs : List Value) → firstOf section (templateReasons smallest bad own total s) o ≡ read vs → Fits smallest bad own total s × (o ≡ read vs)
-  unfolding NoneHold templateReasons totalReasons
+  unfolding NoneHold templateReasons fittingReasons totalReasons
   template-read smallest bad own total vs e =
       let h = read-none section (templateReasons smallest bad own total s) o vs e in (
         record {
@@ -184,7 +191,7 @@ module _ (section : ℕ) (s : List ℕ) (o : Outcome) where
       )
 
   pub template-last : (smallest bad own total : ℕ) → Fits smallest bad own total s → firstOf section (templateReasons smallest bad own total s) o ≡ o
-  unfolding NoneHold templateReasons totalReasons
+  unfolding NoneHold templateReasons fittingReasons totalReasons
   template-last smallest bad own total f =
       none-last section (templateReasons smallest bad own total s) o
       (le-ltb _ _ (f .enough), (same-test _ _ (f .in-range), (same-test _ _ (f .own-kept), (same-test _ _ (f .whole), tt))))

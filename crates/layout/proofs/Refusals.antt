@@ -10,7 +10,7 @@ use lib.Dec.{leb, ltb, eqb}
 use lib.ListN.{length}
 use borrow.Author.Tests.{eqb-true, eq-eqb, leb-true, ltb-false}
 use Rattle.layout.specs.Fields.{Field, held, said, shown, allowed, FieldAt, badPlace, lowestBad, rawAt}
-use Rattle.layout.specs.Outcomes.{Outcome, refused, read, refusal, refusedBy, Reason, reason, firstOf, firstRefusal, noRefusal, andThen, headReasons, openingReasons, totalReasons, templateReasons}
+use Rattle.layout.specs.Outcomes.{Outcome, refused, read, refusal, refusedBy, Reason, reason, firstOf, firstRefusal, noRefusal, andThen, headReasons, openingReasons, totalReasons, fittingReasons, templateReasons}
 use Rattle.layout.specs.Refusals.{Row, row, oneOf, numbersOf, hasPlace, lastPlace, Listed}
 use Rattle.layout.specs.declared.Refusal.{Refusal}
 use Rattle.layout.proofs.Outcomes.{NoneHold, either}
@@ -118,8 +118,11 @@ abbrev pub openingNumbers : List ℕ
 openingNumbers = 5 ∷ headNumbers
 
 -- once the template is known, beside the section's own
+abbrev pub fittingNumbers : List ℕ
+fittingNumbers = 8 ∷ 11 ∷ []
+
 abbrev pub templateNumbers : List ℕ
-templateNumbers = 7 ∷ 8 ∷ 11 ∷ []
+templateNumbers = 7 ∷ fittingNumbers
 
 -- a number that the table lists for a section
 abbrev Has : List Row → ℕ → ℕ → Type 0
@@ -139,18 +142,15 @@ opening-listed table section least s a =
     let parts = both-hold _ _ a in
     head-listed table section s (reason 5 (ltb (length s) least) ∷ []) (parts .1) (reason-listed table section 5 _ [] (parts .0) refl tt)
 
--- the lowest bad field starts within the smallest total, so with 8 the place is an octet of the section
-template-listed : (table : List Row) (section smallest bad own total : ℕ) (s : List ℕ) → allOf (numbersOf table section) templateNumbers ≡ true → oneOf (0 ∷ numbersOf table section) own ≡ true → hasPlace own ≡ false → bad ≤ smallest → length s ≤ 65536 → AllListed table section (templateReasons smallest bad own total s)
-unfolding templateReasons totalReasons AllListed
-template-listed table section smallest bad own total s a l p b small =
-    let has : (n : ℕ) → oneOf templateNumbers n ≡ true → Has table section n = λ n e. all-of (numbersOf table section) templateNumbers n a e in (
-      (λ h. placeless table 7 section (has 7 refl) refl),
-      λ long. (
-        (λ h. record { listed = has 8 refl; placed = record { given = h; within = omega (arith, ltb-false (length s) smallest long) } }),
-        λ fine. (
-          (λ h. placeless table own section (met own l h) p),
-          λ kept. reason-listed table section 11 _ [] (has 11 refl) refl tt,
-        ),
+-- with 8 the place is an octet of the section
+fitting-listed : (table : List Row) (section bad own total : ℕ) (s : List ℕ) → allOf (numbersOf table section) fittingNumbers ≡ true → oneOf (0 ∷ numbersOf table section) own ≡ true → hasPlace own ≡ false → bad ≤ length s → length s ≤ 65536 → AllListed table section (fittingReasons bad own total s)
+unfolding fittingReasons totalReasons AllListed
+fitting-listed table section bad own total s a l p b small =
+    let has : (n : ℕ) → oneOf fittingNumbers n ≡ true → Has table section n = λ n e. all-of (numbersOf table section) fittingNumbers n a e in (
+      (λ h. record { listed = has 8 refl; placed = record { given = h; within = omega arith } }),
+      λ fine. (
+        (λ h. placeless table own section (met own l h) p),
+        λ kept. reason-listed table section 11 _ [] (has 11 refl) refl tt,
       ),
     )
   where
@@ -169,9 +169,15 @@ unfolding openingReasons NoneHold
 opening-refuses table section least s o a q =
     first-refuses table section (openingReasons section least s) o (opening-listed table section least s a) (λ none. q (ltb-false _ _ (none .1 .0)))
 
+-- the lowest bad field starts within the smallest total
 pub template-refuses : (table : List Row) (section smallest bad own total : ℕ) (s : List ℕ) (o : Outcome) → allOf (numbersOf table section) templateNumbers ≡ true → oneOf (0 ∷ numbersOf table section) own ≡ true → hasPlace own ≡ false → bad ≤ smallest → length s ≤ 65536 → Refuses table o → Refuses table (firstOf section (templateReasons smallest bad own total s) o)
+unfolding templateReasons AllListed
 template-refuses table section smallest bad own total s o a l p b small q =
-    first-refuses table section (templateReasons smallest bad own total s) o (template-listed table section smallest bad own total s a l p b small) (λ none. q)
+    let parts = both-hold _ _ a in
+    first-refuses table section (templateReasons smallest bad own total s) o (
+      (λ h. placeless table 7 section (parts .0) refl),
+      λ long. fitting-listed table section bad own total s (parts .1) l p (omega (arith, ltb-false (length s) smallest long)) small,
+    ) (λ none. q)
 
 -- ---- where the lowest bad field starts
 
@@ -215,15 +221,15 @@ opening-told section least s =
     let table = row section openingNumbers ∷ [] in
     first-listed table section (openingReasons section least s) (opening-listed table section least s (rw (eq-eqb section section refl)))
 
--- with an own number that has no place, of a section that has passed its head
-pub template-told : (section smallest bad own total : ℕ) (s : List ℕ) → hasPlace own ≡ false → bad ≤ smallest → length s ≤ 65536
-    → let x = firstRefusal section (templateReasons smallest bad own total s) in (x ≡ noRefusal) ⊎ Listed (row section (7 ∷ 8 ∷ 11 ∷ own ∷ []) ∷ []) x
-template-told section smallest bad own total s p b small =
-    let table = row section (7 ∷ 8 ∷ 11 ∷ own ∷ []) ∷ [] in
+-- with an own number that has no place, and a bad field of the section, which has passed its head
+pub fitting-told : (section bad own total : ℕ) (s : List ℕ) → hasPlace own ≡ false → bad ≤ length s → length s ≤ 65536
+    → let x = firstRefusal section (fittingReasons bad own total s) in (x ≡ noRefusal) ⊎ Listed (row section (8 ∷ 11 ∷ own ∷ []) ∷ []) x
+fitting-told section bad own total s p b small =
+    let table = row section (8 ∷ 11 ∷ own ∷ []) ∷ [] in
     let P : Bool → Type 0 = λ t. t ≡ true in
-    first-listed table section (templateReasons smallest bad own total s)
-    (template-listed table section smallest bad own total s (rw (eq-eqb section section refl))
-    (rw (eq-eqb section section refl, eq-eqb own own refl) (either P (eqb own 0) refl (either P (eqb own 7) refl (either P (eqb own 8) refl (either P (eqb own 11) refl refl)))))
+    first-listed table section (fittingReasons bad own total s)
+    (fitting-listed table section bad own total s (rw (eq-eqb section section refl))
+    (rw (eq-eqb section section refl, eq-eqb own own refl) (either P (eqb own 0) refl (either P (eqb own 8) refl (either P (eqb own 11) refl refl))))
     p b small)
 
 -- ---- as one number

@@ -84,11 +84,10 @@ openingReasons section least s = headReasons section s ++ (reason 5 (ltb (length
 unfoldable pub totalReasons : ℕ → List ℕ → List Reason
 totalReasons total s = reason 11 (not (eqb (length s) total)) ∷ []
 
--- once the template is known: 7, under its smallest total; 8, at the place of the lowest bad field; a number that the section has of its own
--- (9, 10), where 0 says that it is not met; then the total
+-- 8, at the place of the lowest bad field; a number that the section has of its own (9, 10), where 0 says that it is not met; then the total
+unfoldable pub fittingReasons : ℕ → ℕ → ℕ → List ℕ → List Reason
+fittingReasons bad own total s = badField bad ∷ reason own (not (eqb own 0)) ∷ totalReasons total s
+
+-- once the template is known: 7, under its smallest total, and then these
 unfoldable pub templateReasons : ℕ → ℕ → ℕ → ℕ → List ℕ → List Reason
-templateReasons smallest bad own total s =
-    reason 7 (ltb (length s) smallest)
-    ∷ badField bad
-    ∷ reason own (not (eqb own 0))
-    ∷ totalReasons total s
+templateReasons smallest bad own total s = reason 7 (ltb (length s) smallest) ∷ fittingReasons bad own total s

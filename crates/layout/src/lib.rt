@@ -5,7 +5,7 @@ ghost use mathlib.Core.Path.{_≡_};
 ghost use mathlib.Core.Bool.{cond};
 ghost use Rattle.octets.specs.Octets.{beAt};
 ghost use Rattle.layout.specs.Fields.{between, notOnes, notZero, means, unsigned, signed, orMissing, after, valuesOf, lowestBad};
-ghost use Rattle.layout.specs.Outcomes.{refusal, noRefusal, headReasons, openingReasons, templateReasons, totalReasons, firstRefusal};
+ghost use Rattle.layout.specs.Outcomes.{refusal, noRefusal, headReasons, openingReasons, fittingReasons, totalReasons, firstRefusal};
 ghost use Rattle.layout.specs.Missing.{in32, inSigned};
 ghost use Rattle.layout.specs.Time.{time, timeIn};
 ghost use Rattle.layout.specs.Spans.{spanAfter};
@@ -76,21 +76,11 @@ pub fn opening_refusal(s: &[u8], section: u8, least: usize) -> Refusal
     Refusal::none()
 }
 
-// Once the template is known: 7, 8 at the place `bad`, the section's own number, and the total's; 0 says that no field is out of its
-// range, and that the own number is not met.
-pub fn template_refusal(
-    s: &[u8],
-    section: u8,
-    smallest: usize,
-    bad: usize,
-    own: u8,
-    total: usize,
-) -> Refusal
-    ensures { λ r. ⌜ r ≡ firstRefusal section (templateReasons smallest bad own total (now (s .entry))) ⌝ }
+// Once the section has the octets of its smallest total: 8 at the place `bad`, the section's own number, and the total's; 0 says that no
+// field is out of its range, and that the own number is not met. A reader tests 7 itself, so that it looks at fields only where they are.
+pub fn fitting_refusal(s: &[u8], section: u8, bad: usize, own: u8, total: usize) -> Refusal
+    ensures { λ r. ⌜ r ≡ firstRefusal section (fittingReasons bad own total (now (s .entry))) ⌝ }
 {
-    if s.len() < smallest {
-        return Refusal::of(7, section);
-    }
     if bad != 0 {
         return Refusal {
             number: 8,

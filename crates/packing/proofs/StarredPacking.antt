@@ -3,7 +3,7 @@
 use mathlib.Core.Path.{refl}
 use Rattle.octets.specs.Octets.{part, be, beAt, digits, signOf}
 use Rattle.layout.specs.Fields.{between, placed, valuesOf, lowestBad}
-use Rattle.layout.specs.Outcomes.{firstOf, openingReasons, totalReasons, templateReasons, andThen}
+use Rattle.layout.specs.Outcomes.{firstOf, openingReasons, totalReasons, fittingReasons, templateReasons, andThen}
 use Rattle.layout.specs.Examples.{AllAgree}
 use Rattle.lent.specs.Rows.{eachFrom}
 use Rattle.packing.specs.Packed.{bitAt, bitsFrom, packedAt, unpacked}
@@ -13,5 +13,5 @@ use Rattle.packing.specs.Unpacking.{unpackOutcome, rowAfter}
 use Rattle.packing.specs.Examples.{starredPacking}
 
 pub packing-agrees : AllAgree starredPacking
-unfolding AllAgree part be beAt digits signOf between placed valuesOf lowestBad firstOf openingReasons totalReasons templateReasons andThen unpacked eachFrom packedAt bitsFrom bitAt fields₅ asSimple outcome₅ fields₇ outcome₇ unpackOutcome rowAfter
+unfolding AllAgree part be beAt digits signOf between placed valuesOf lowestBad firstOf openingReasons totalReasons fittingReasons templateReasons andThen unpacked eachFrom packedAt bitsFrom bitAt fields₅ asSimple outcome₅ fields₇ outcome₇ unpackOutcome rowAfter
 packing-agrees = (refl, (refl, (refl, (refl, (refl, tt)))))

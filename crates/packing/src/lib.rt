@@ -61,8 +61,11 @@ pub fn read(section: &[u8]) -> Answer
 fn read_simple(section: &[u8]) -> Answer
     ensures { λ r. ⌜ told₅ r ≡ asSimple (now (section .entry)) ⌝ }
 {
+    if section.len() < 21 {
+        return Answer::Refused(Refusal::of(7, 5));
+    }
     let bad = layout::octet_within(section, 20, 0, 32, 0);
-    let refused = layout::template_refusal(section, 5, 21, bad, 0, 21);
+    let refused = layout::fitting_refusal(section, 5, bad, 0, 21);
     if refused.number != 0 {
         return Answer::Refused(refused);
     }

@@ -3,7 +3,7 @@
 use mathlib.Core.Path.{refl}
 use Rattle.octets.specs.Octets.{part, be, beAt}
 use Rattle.layout.specs.Fields.{between, placed, lowestBad, valuesOf}
-use Rattle.layout.specs.Outcomes.{firstOf, openingReasons, totalReasons, templateReasons}
+use Rattle.layout.specs.Outcomes.{firstOf, openingReasons, totalReasons, fittingReasons, templateReasons}
 use Rattle.layout.specs.Examples.{AllAgree}
 use Rattle.layout.specs.Time.{time}
 use Rattle.product.specs.Blocks.{head, parameter, process, forecast, scaled, surface, common, ensemble, cluster, interval}
@@ -12,5 +12,5 @@ use Rattle.product.specs.Section4.{asTemplate, byTemplate, outcome₄}
 use Rattle.product.specs.Examples.{starredProducts}
 
 pub products-agree : AllAgree starredProducts
-unfolding AllAgree part be beAt between placed lowestBad valuesOf firstOf openingReasons totalReasons templateReasons time head parameter process forecast scaled surface common ensemble cluster interval templateOf ahead behind front timeRanges lists fields₄ rangesEnd total rangesAt asTemplate byTemplate outcome₄
+unfolding AllAgree part be beAt between placed lowestBad valuesOf firstOf openingReasons totalReasons fittingReasons templateReasons time head parameter process forecast scaled surface common ensemble cluster interval templateOf ahead behind front timeRanges lists fields₄ rangesEnd total rangesAt asTemplate byTemplate outcome₄
 products-agree = (refl, (refl, (refl, (refl, (refl, (refl, tt))))))

@@ -100,10 +100,6 @@ total kind timed n nc nv = rangesEnd kind timed n + nc + 4 * nv
 unfoldable pub rangesAt : PartKind → Bool → List ℕ → ℕ
 rangesAt kind timed s = cond timed (beAt s (partEnd kind + 8) 1) 0
 
--- 9 where time ranges should be there and n is 0, and else 0
-abbrev pub lackOfRanges : Bool → ℕ → ℕ
-lackOfRanges timed n = cond (timed && eqb n 0) 9 0
-
 abbrev pub membersAt : PartKind → List ℕ → ℕ
 membersAt noPart s = 0
 membersAt Ensemble s = 0
@@ -113,6 +109,10 @@ membersAt Aerosol s = 0
 
 abbrev pub coordinatesAt : List ℕ → ℕ
 coordinatesAt s = beAt s 6 2
+
+-- 9 where time ranges should be there and n is 0, and else 0
+abbrev pub lackOfRanges : Bool → ℕ → ℕ
+lackOfRanges timed n = cond (timed && eqb n 0) 9 0
 
 -- the fields, the total and the values of a section, by its own counts
 abbrev pub fieldsIn : PartKind → Bool → List ℕ → List Field

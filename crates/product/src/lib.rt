@@ -71,14 +71,16 @@ pub fn refusal_of(answer: Answer) -> Refusal
 fn read_as(section: &[u8], kind: PartKind, timed: bool) -> Answer
     ensures { λ r. ⌜ told r ≡ asTemplate kind timed (now (section .entry)) ⌝ }
 {
-    let smallest = total_of(kind, timed, 1, 0, 0);
+    if section.len() < total_of(kind, timed, 1, 0, 0) {
+        return Answer::Refused(Refusal::of(7, 4));
+    }
     let bad = bad_place(section, kind, timed);
     let ranges = range_count(section, kind, timed);
     let own = lack_of_ranges(timed, ranges);
     let members = member_count(section, kind);
     let coordinates = octets::u16_at(section, 6);
     let total = total_of(kind, timed, ranges, members, coordinates);
-    let refused = layout::template_refusal(section, 4, smallest, bad, own, total);
+    let refused = layout::fitting_refusal(section, 4, bad, own, total);
     if refused.number != 0 {
         return Answer::Refused(refused);
     }

@@ -23,8 +23,7 @@ fn template_read(section: &[u8]) -> Template
     template_of(octets::u16_at(section, 8))
 }
 
-// Where the lists stand: `ranges` time ranges of 12 octets each, the first after octet `ranges_after`, then the members and the
-// coordinate values.
+// `ranges` time ranges of 12 octets each, the first after octet `ranges_after`; then the members and the coordinate values.
 struct Lists {
     ranges_after: u32,
     ranges: u8,
@@ -32,6 +31,7 @@ struct Lists {
     coordinates: Span,
 }
 
+// Where the lists of a section stand, nowhere if it is refused.
 fn lists_read(section: &[u8]) -> Lists
     ensures { λ r. ⌜ ListsStand r (templateRead (now (section .entry))) (now (section .entry)) ⌝ }
 {
