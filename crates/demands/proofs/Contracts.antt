@@ -33,9 +33,10 @@ use Rattle.packing.specs.Unpacking.{Unpacks}
 use Rattle.field.specs.Field as field
 use Rattle.card.specs.Key.{lessCard}
 use Rattle.shelf.specs.Shelves.{blank, slotAt, emptyShelf, putOf, joinShelf}
-use Rattle.filing.specs.Filing.{filedOf}
+use Rattle.filing.specs.Filing.{filedOf, storedIssue}
 use Rattle.filing.specs.declared.Issue.the-variants.{NotNamed}
-use Rattle.queue.specs.Numbers.{numberOf}
+use Rattle.cutting.specs.Numbers.{leadingNumber}
+use Rattle.cutting.specs.Sections.{stretch, endAfter}
 use Rattle.queue.specs.Records.{recordOf}
 use Rattle.queue.specs.Bodies.{bodyOf}
 use Rattle.queue.specs.Queues.{recordIn, recordFiled, queueRefusal, queueFiled}
@@ -104,10 +105,13 @@ use Rattle.shelf.proofs.join.Reads as join
 use Rattle.filing.proofs.file_by_value.Reads as file
 use Rattle.filing.proofs.file as lent-file
 use Rattle.filing.proofs.bench_reload.Reads as reload
-use Rattle.queue.proofs.number_of.Reads as number-of
+use Rattle.filing.proofs.issue_from.Reads as issue-from
+use Rattle.cutting.proofs.leading_number.Reads as leading-number
+use Rattle.cutting.proofs.end_after.Reads as end-after
+use Rattle.cutting.proofs.stretch.Reads as stretch-of
 use Rattle.queue.proofs.record_of.Reads as record-of
 use Rattle.queue.proofs.body_of.Reads as body-of
-use Rattle.queue.proofs.refusal_of.Reads as refusal-of-queue
+use Rattle.queue.proofs.refusal_number.Reads as refusal-number
 use Rattle.queue.proofs.file_record.Reads as file-record
 use Rattle.queue.proofs.file.Reads as file-queue
 use Rattle.standard.proofs.read_all.Reads as read-all
@@ -308,8 +312,17 @@ filing-file 𝓤 H A at-mem run lent given r = id⊢ 𝓤 _
 pub filing-bench-reload : (lent : _) (given : _) (r : _) (later : _) → reload.Learnt lent given r later → r ≡ filedOf (given .0) (given .1 .0) NotNamed (now (given .1 .1 .0)) (now (given .1 .1 .1 .0)) (now (given .1 .1 .1 .1 .0)) (now (given .1 .1 .1 .1 .1 .0)) (now (given .1 .1 .1 .1 .1 .1 .0))
 filing-bench-reload lent given r later e = e
 
-pub queue-number-of : (lent : _) (given : _) (r : _) (later : _) → number-of.Learnt lent given r later → r ≡ numberOf (now (given .0))
-queue-number-of lent given r later e = e
+pub filing-issue-from : (lent : _) (given : _) (r : _) (later : _) → issue-from.Learnt lent given r later → r ≡ storedIssue (given .0)
+filing-issue-from lent given r later e = e
+
+pub cutting-leading-number : (lent : _) (given : _) (r : _) (later : _) → leading-number.Learnt lent given r later → r ≡ leadingNumber (now (given .0))
+cutting-leading-number lent given r later e = e
+
+pub cutting-end-after : (lent : _) (given : _) (r : _) (later : _) → end-after.Learnt lent given r later → r ≡ endAfter (now (given .0)) (given .1 .0)
+cutting-end-after lent given r later e = e
+
+pub cutting-stretch : (lent : _) (given : _) (r : _) (later : _) → stretch-of.Learnt lent given r later → now r ≡ stretch (now (given .0)) (given .1 .0) (given .1 .1 .0)
+cutting-stretch lent given r later e = e
 
 pub queue-record-of : (lent : _) (given : _) (r : _) (later : _) → record-of.Learnt lent given r later → r ≡ recordOf (now (given .0))
 queue-record-of lent given r later e = e
@@ -317,8 +330,8 @@ queue-record-of lent given r later e = e
 pub queue-body-of : (lent : _) (given : _) (r : _) (later : _) → body-of.Learnt lent given r later → r ≡ bodyOf (now (given .0))
 queue-body-of lent given r later e = e
 
-pub queue-refusal-of : (lent : _) (given : _) (r : _) (later : _) → refusal-of-queue.Learnt lent given r later → r ≡ queueRefusal (now (given .0))
-queue-refusal-of lent given r later e = e
+pub queue-refusal-number : (lent : _) (given : _) (r : _) (later : _) → refusal-number.Learnt lent given r later → r ≡ queueRefusal (now (given .0))
+queue-refusal-number lent given r later e = e
 
 pub queue-file-record : (lent : _) (given : _) (r : _) (later : _) → file-record.Learnt lent given r later → r ≡ recordFiled (given .0) (recordIn (now (given .1 .0)) (given .1 .1 .0))
 queue-file-record lent given r later e = e

@@ -119,8 +119,14 @@ use Rattle.filing.proofs.file.Statement as filing-file
 use Rattle.filing.proofs.file.Met as filing-file-met
 use Rattle.filing.proofs.bench_reload.Statement as filing-bench-reload
 use Rattle.filing.proofs.bench_reload.Met as filing-bench-reload-met
-use Rattle.queue.proofs.number_of.Statement as queue-number-of
-use Rattle.queue.proofs.number_of.Met as queue-number-of-met
+use Rattle.filing.proofs.issue_from.Statement as filing-issue-from
+use Rattle.filing.proofs.issue_from.Met as filing-issue-from-met
+use Rattle.cutting.proofs.leading_number.Statement as cutting-leading-number
+use Rattle.cutting.proofs.leading_number.Met as cutting-leading-number-met
+use Rattle.cutting.proofs.end_after.Statement as cutting-end-after
+use Rattle.cutting.proofs.end_after.Met as cutting-end-after-met
+use Rattle.cutting.proofs.stretch.Statement as cutting-stretch
+use Rattle.cutting.proofs.stretch.Met as cutting-stretch-met
 use Rattle.queue.proofs.record_of.Statement as queue-record-of
 use Rattle.queue.proofs.record_of.Met as queue-record-of-met
 use Rattle.queue.proofs.body_of.Statement as queue-body-of
@@ -129,8 +135,8 @@ use Rattle.queue.proofs.file_record.Statement as queue-file-record
 use Rattle.queue.proofs.file_record.Met as queue-file-record-met
 use Rattle.queue.proofs.file.Statement as queue-file
 use Rattle.queue.proofs.file.Met as queue-file-met
-use Rattle.queue.proofs.refusal_of.Statement as queue-refusal-of
-use Rattle.queue.proofs.refusal_of.Met as queue-refusal-of-met
+use Rattle.queue.proofs.refusal_number.Statement as queue-refusal-number
+use Rattle.queue.proofs.refusal_number.Met as queue-refusal-number-met
 use Rattle.text.proofs.octet.Statement as text-octet
 use Rattle.text.proofs.octet.Met as text-octet-met
 use Rattle.text.proofs.words.Statement as text-words
@@ -381,10 +387,21 @@ filing-file-ends = filing-file-met.met
 pub filing-bench-reload-ends : {M : Type 1} → filing-bench-reload.statement M
 filing-bench-reload-ends = filing-bench-reload-met.met
 
--- ---- queue
+pub filing-issue-from-ends : {M : Type 1} → filing-issue-from.statement M
+filing-issue-from-ends = filing-issue-from-met.met
 
-pub queue-number-of-ends : {M : Type 1} → queue-number-of.statement M
-queue-number-of-ends = queue-number-of-met.met
+-- ---- cutting
+
+pub cutting-leading-number-ends : {M : Type 1} → cutting-leading-number.statement M
+cutting-leading-number-ends = cutting-leading-number-met.met
+
+pub cutting-end-after-ends : {M : Type 1} → cutting-end-after.statement M
+cutting-end-after-ends = cutting-end-after-met.met
+
+pub cutting-stretch-ends : {M : Type 1} → cutting-stretch.statement M
+cutting-stretch-ends = cutting-stretch-met.met
+
+-- ---- queue
 
 pub queue-record-of-ends : {M : Type 1} → queue-record-of.statement M
 queue-record-of-ends = queue-record-of-met.met
@@ -398,8 +415,8 @@ queue-file-record-ends = queue-file-record-met.met
 pub queue-file-ends : {M : Type 1} → queue-file.statement M
 queue-file-ends = queue-file-met.met
 
-pub queue-refusal-of-ends : {M : Type 1} → queue-refusal-of.statement M
-queue-refusal-of-ends = queue-refusal-of-met.met
+pub queue-refusal-number-ends : {M : Type 1} → queue-refusal-number.statement M
+queue-refusal-number-ends = queue-refusal-number-met.met
 
 -- ---- text
 

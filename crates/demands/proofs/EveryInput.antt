@@ -69,12 +69,15 @@ use Rattle.shelf_octets.proofs.write.Reads as shelf-octets-write
 use Rattle.filing.proofs.file_by_value.Reads as filing-file-by-value
 use Rattle.filing.proofs.file as filing-file
 use Rattle.filing.proofs.bench_reload.Reads as filing-bench-reload
-use Rattle.queue.proofs.number_of.Reads as queue-number-of
+use Rattle.filing.proofs.issue_from.Reads as filing-issue-from
+use Rattle.cutting.proofs.leading_number.Reads as cutting-leading-number
+use Rattle.cutting.proofs.end_after.Reads as cutting-end-after
+use Rattle.cutting.proofs.stretch.Reads as cutting-stretch
 use Rattle.queue.proofs.record_of.Reads as queue-record-of
 use Rattle.queue.proofs.body_of.Reads as queue-body-of
 use Rattle.queue.proofs.file_record.Reads as queue-file-record
 use Rattle.queue.proofs.file.Reads as queue-file
-use Rattle.queue.proofs.refusal_of.Reads as queue-refusal-of
+use Rattle.queue.proofs.refusal_number.Reads as queue-refusal-number
 use Rattle.text.proofs.octet.Reads as text-octet
 use Rattle.text.proofs.words.Reads as text-words
 use Rattle.text.proofs.number.Reads as text-number
@@ -302,10 +305,21 @@ filing-file-takes 𝓤 H A at-mem run lent given = id⊢ 𝓤 (emp 𝓤)
 pub filing-bench-reload-takes : TakesEvery filing-bench-reload.Asked
 filing-bench-reload-takes lent given = tt
 
--- ---- queue
+pub filing-issue-from-takes : TakesEvery filing-issue-from.Asked
+filing-issue-from-takes lent given = tt
 
-pub queue-number-of-takes : TakesEvery queue-number-of.Asked
-queue-number-of-takes lent given = tt
+-- ---- cutting
+
+pub cutting-leading-number-takes : TakesEvery cutting-leading-number.Asked
+cutting-leading-number-takes lent given = tt
+
+pub cutting-end-after-takes : TakesEvery cutting-end-after.Asked
+cutting-end-after-takes lent given = tt
+
+pub cutting-stretch-takes : TakesEvery cutting-stretch.Asked
+cutting-stretch-takes lent given = tt
+
+-- ---- queue
 
 pub queue-record-of-takes : TakesEvery queue-record-of.Asked
 queue-record-of-takes lent given = tt
@@ -319,8 +333,8 @@ queue-file-record-takes lent given = tt
 pub queue-file-takes : TakesEvery queue-file.Asked
 queue-file-takes lent given = tt
 
-pub queue-refusal-of-takes : TakesEvery queue-refusal-of.Asked
-queue-refusal-of-takes lent given = tt
+pub queue-refusal-number-takes : TakesEvery queue-refusal-number.Asked
+queue-refusal-number-takes lent given = tt
 
 -- ---- text
 

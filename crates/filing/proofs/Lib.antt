@@ -1,2 +1,3 @@
 pub mod SaidOfTheSlots
 pub mod CardOctets
+pub mod StoredIssues

@@ -1,12 +1,8 @@
-pub mod Numbers
-pub mod OneSpelling
-pub mod Taken
 pub mod Cuts
-pub mod Walks
 pub mod FiledQueues
 pub mod Counting
 pub mod RecordsAsCards
 pub mod Histories
-pub mod QueueIsJoin
+pub mod QueueIsJoining
 pub mod Concatenation
 pub mod StarredQueues

@@ -36,8 +36,10 @@ use Rattle.filing.specs.Filing.{Filing, refusedFiling, accepted, ofField, issue
 use Rattle.filing.specs.declared.Issue.{Issue}
 use Rattle.filing.specs.declared.Answer.{Answer}
 use Rattle.filing.specs.declared.Answer.the-variants.{Kept, Passed, Refused}
+use Rattle.cutting.specs.Cuts.{cutOf}
+use Rattle.cutting.specs.Sections.{stretch}
 use Rattle.queue.specs.Bodies.{bodyOf}
-use Rattle.queue.specs.Queues.{Sent, between, bodyFiling, recordFiling, recordFiled, cutOf, recordsFiled, fromStart, queueRefusal, acceptedQueue, refusedQueue, queueFiled}
+use Rattle.queue.specs.Queues.{Sent, bodyFiling, recordFiling, recordFiled, recordStep, recordsFiled, fromStart, queueRefusal, acceptedQueue, refusedQueue, queueFiled}
 use Rattle.queue.specs.declared.Body.{Body}
 use Rattle.queue.specs.declared.Body.the-variants.{Five, NotFive}
 use Rattle.queue.specs.declared.QueueAnswer.{QueueAnswer}
@@ -295,11 +297,11 @@ body-refuses : (slot : ℕ) (issue : Issue) (s : List ℕ) (body : Body) → Ref
 unfolding bodyFiling
 body-refuses slot issue s NotFive = record { listed = refl; placed = refl; within = none }
 body-refuses slot issue s (Five e) =
-    let one = between s 0 (e .one) in
-    let three = between s (e .one) (e .three) in
-    let four = between s (e .three) (e .four) in
-    let five = between s (e .four) (e .five) in
-    let seven = between s (e .five) (length s) in
+    let one = stretch s 0 (e .one) in
+    let three = stretch s (e .one) (e .three) in
+    let four = stretch s (e .three) (e .four) in
+    let five = stretch s (e .four) (e .five) in
+    let seven = stretch s (e .five) (length s) in
     of-record (filingOf slot issue one three four five seven) (refuses-filing slot issue one three four five seven)
 
 -- the answer that a filing gives
@@ -334,9 +336,9 @@ RefusesQueue (refusedAll x) = Listed queueTable x
 
 refuses-queue : (shelf : Shelf) (q : List ℕ) → RefusesQueue (queueFiled shelf q .answer)
 unfolding queueFiled queueRefusal
-refuses-queue shelf q = by-tests (ltb 65536 (length q)) (cutOf q .whole)
+refuses-queue shelf q = by-tests (ltb 65536 (length q)) (cutOf recordStep q .whole)
   where
-    by-tests : (long whole : Bool) → RefusesQueue (cond (eqb (cond long 2 (cond whole 0 19)) 0) (acceptedQueue (recordsFiled (fromStart shelf) (cutOf q .records))) (refusedQueue shelf (cond long 2 (cond whole 0 19))) .answer)
+    by-tests : (long whole : Bool) → RefusesQueue (cond (eqb (cond long 2 (cond whole 0 19)) 0) (acceptedQueue (recordsFiled (fromStart shelf) (cutOf recordStep q .items))) (refusedQueue shelf (cond long 2 (cond whole 0 19))) .answer)
     by-tests true whole = record { listed = refl; placed = refl; within = none }
     by-tests false true = tt
     by-tests false false = record { listed = refl; placed = refl; within = none }
@@ -349,8 +351,8 @@ queue-refuses shelf q x e = subst (λ (a : QueueAnswer). RefusesQueue a) e (refu
 pub queue-number : (q : List ℕ) → oneOf (0 ∷ 2 ∷ 19 ∷ []) (queueRefusal q) ≡ true
 unfolding queueRefusal
 queue-number q =
-    by-test (λ (t : Bool). oneOf (0 ∷ 2 ∷ 19 ∷ []) (cond t 2 (cond (cutOf q .whole) 0 19)) ≡ true) (ltb 65536 (length q)) (λ h. refl)
-    (λ h. by-test (λ (t : Bool). oneOf (0 ∷ 2 ∷ 19 ∷ []) (cond t 0 19) ≡ true) (cutOf q .whole) (λ h. refl) (λ h. refl))
+    by-test (λ (t : Bool). oneOf (0 ∷ 2 ∷ 19 ∷ []) (cond t 2 (cond (cutOf recordStep q .whole) 0 19)) ≡ true) (ltb 65536 (length q)) (λ h. refl)
+    (λ h. by-test (λ (t : Bool). oneOf (0 ∷ 2 ∷ 19 ∷ []) (cond t 0 19) ≡ true) (cutOf recordStep q .whole) (λ h. refl) (λ h. refl))
 
 pub head-number : (s : List ℕ) (section : ℕ) → oneOf (0 ∷ 1 ∷ 2 ∷ 3 ∷ 4 ∷ []) (firstNumber (headReasons section s)) ≡ true
 unfolding firstNumber

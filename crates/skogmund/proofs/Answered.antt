@@ -18,10 +18,10 @@ use Rattle.packing.specs.Unpacking.{unpackOutcome}
 use Rattle.shelf.specs.declared.Shelf.{Shelf}
 use Rattle.shelf.specs.Shelves.{slotAt, putOf}
 use Rattle.shelf_octets.specs.ShelfOctets.{shelfIn, octetsOf}
-use Rattle.filing.specs.Filing.{Filing, refusedFiling, accepted, filingOf, keptIf, filedBy, filedOf}
-use Rattle.queue.specs.Records.{issueFrom}
+use Rattle.filing.specs.Filing.{Filing, refusedFiling, accepted, filingOf, keptIf, filedBy, filedOf, issueFrom}
 use Rattle.queue.specs.declared.QueueFiled.{QueueFiled}
-use Rattle.queue.specs.Queues.{cutOf, recordsFiled, fromStart, queueRefusal, refusedQueue, acceptedQueue, queueFiled}
+use Rattle.cutting.specs.Cuts.{cutOf}
+use Rattle.queue.specs.Queues.{recordStep, recordsFiled, fromStart, queueRefusal, refusedQueue, acceptedQueue, queueFiled}
 use Rattle.report.specs.Texts.{listing}
 use Rattle.refusals.specs.Refusals.{Row, Listed, unpackTable, filingTable}
 use Rattle.refusals.proofs.RefusalNumbers.{unpack-refuses, filing-refuses}
@@ -158,7 +158,7 @@ module _ (s : List ℕ) (slot stored : ℕ) (s1 s3 s4 s5 s7 places : List ℕ) w
   )
 
 abbrev queued : List ℕ → List ℕ → Bool → QueueFiled
-queued s q t = cond t (acceptedQueue (recordsFiled (fromStart (shelfIn s)) (cutOf q .records))) (refusedQueue (shelfIn s) (queueRefusal q))
+queued s q t = cond t (acceptedQueue (recordsFiled (fromStart (shelfIn s)) (cutOf recordStep q .items))) (refusedQueue (shelfIn s) (queueRefusal q))
 
 pub queue-left : (s q places : List ℕ) → filedQueue s q places .answer ≡ 0 → (queueRefusal q ≡ 0) × Room s places 3 × (filedQueue s q places .lent .0 ≡ octetsOf (queueFiled (shelfIn s) q .shelf))
 unfolding filedQueue queueKept queueFiled

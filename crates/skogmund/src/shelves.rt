@@ -5,13 +5,12 @@ ghost use Prim.Native.Nat.{_≤_};
 ghost use lib.IntN.{pos};
 ghost use lib.ListN.{length, take, drop};
 ghost use Rattle.octets.specs.Octets.{part};
-ghost use Rattle.queue.specs.Records.{issueFrom};
 ghost use Rattle.values.specs.Lent.{done};
 ghost use Rattle.values.specs.Records.{withCount};
 ghost use Rattle.skogmund.specs.Entries.{doneBoth};
 ghost use Rattle.skogmund.specs.Shelves.{emptied, joined, keptIn, filedField, filedQueue, slotNumbers, slotShown};
 use filing::Answer;
-use filing::Issue;
+use filing::StoredIssue;
 use queue::Counts;
 use queue::QueueAnswer;
 use shelf::Shelf;
@@ -69,10 +68,9 @@ pub extern "C" fn skogmund_file<'s, 'a, 'k>(
 ) -> u64
     ensures { λ r. ⌜ doneBoth r (now (shelf .exit)) (now (kept .exit)) ≡ filedField (now (shelf .entry)) slot issue_plus_1 (now (section1 .entry)) (now (section3 .entry)) (now (section4 .entry)) (now (section5 .entry)) (now (section7 .entry)) (now (kept .entry)) ⌝ }
 {
-    if 4294967296 < issue_plus_1 {
+    let StoredIssue::Is(issue) = filing::issue_from(issue_plus_1) else {
         return MALFORMED;
-    }
-    let issue = issue_from(issue_plus_1);
+    };
     let done = filing::file_by_value(
         shelf_octets::read(shelf),
         slot as usize,
@@ -90,16 +88,6 @@ pub extern "C" fn skogmund_file<'s, 'a, 'k>(
         Answer::Passed => keep_flag(shelf, kept, after, 0),
         Answer::Refused(x) => crate::code(x),
     }
-}
-
-fn issue_from(stored: u64) -> Issue
-    requires { ⌜ stored ≤ 4294967296 ⌝ }
-    ensures { λ r. ⌜ r ≡ issueFrom stored ⌝ }
-{
-    if stored == 0 {
-        return Issue::NotNamed;
-    }
-    Issue::Named((stored - 1) as u32)
 }
 
 fn keep_flag(shelf: &mut [u8], kept: &mut [u64], after: Shelf, flag: u64) -> u64

@@ -11,8 +11,10 @@ use Rattle.octets.proofs.Free.{free}
 use Rattle.shelf.specs.declared.Shelf.{Shelf}
 use Rattle.shelf.specs.Shelves.{emptyShelf}
 use Rattle.filing.specs.declared.Filed.{Filed}
-use Rattle.queue.specs.Queues.{Sent, Cut, recordIn, recordFiled, cutOf}
-use Rattle.queue.proofs.Walks.{Onward, restAt, walk-on, walk-broken, walk-end}
+use Rattle.cutting.specs.Cuts.{Cut, cutOf}
+use Rattle.cutting.proofs.Walks.{restAt}
+use Rattle.queue.specs.Queues.{Sent, recordIn, recordFiled, recordStep}
+use Rattle.queue.proofs.Cuts.{RecordAt, record-at, no-record-at, end-at}
 use Rattle.text.specs.Text.{Written, written, append}
 use Rattle.text.proofs.Laws.{append-both, same-room}
 use Rattle.report.specs.Texts.{recordLine, recordLines}
@@ -23,7 +25,7 @@ record Inv (first : Written) (queue : List ℕ) (here : Written) (shelf : Shelf)
   inside : i ≤ length queue
   number : k ≤ i + 1
   room : length (here .octets) ≡ length (first .octets)
-  left : append here (recordLines k shelf (cutOf (drop i queue) .records)) ≡ append first (recordLines 1 emptyShelf (cutOf queue .records))
+  left : append here (recordLines k shelf (cutOf recordStep (drop i queue) .items)) ≡ append first (recordLines 1 emptyShelf (cutOf recordStep queue .items))
 
 abbrev Inv-loop : tie.InvT-loop
 Inv-loop out₀ at queue next₀ shelf₀ k₀ i₀ out next shelf k i = Inv (written out₀ at) queue (written out next) shelf k i
@@ -37,23 +39,8 @@ loop-holds c =
       inside = omega arith;
       number = omega arith;
       room = refl;
-      left = ap (λ (s : Shelf). append (written (now (c .before .before .before .args .out)) (c .before .before .before .args .at)) (recordLines 1 s (cutOf (now (c .before .before .before .args .queue)) .records))) (c .empty .ensures);
+      left = ap (λ (s : Shelf). append (written (now (c .before .before .before .args .out)) (c .before .before .before .args .at)) (recordLines 1 s (cutOf recordStep (now (c .before .before .before .args .queue)) .items))) (c .empty .ensures);
     }
-
-sub-rest : tie.Need-sub-rest Inv-loop μ-loop
-sub-rest c = search needs
-
-part-rest-start : tie.Need-part-rest-start Inv-loop μ-loop
-part-rest-start c = search needs
-
-part-rest-end : tie.Need-part-rest-end Inv-loop μ-loop
-part-rest-end c = search needs
-
-enum-known-head : tie.Need-enum-known-head Inv-loop μ-loop
-enum-known-head c = search needs
-
-enum-told : tie.Need-enum-told Inv-loop μ-loop
-enum-told c = search needs
 
 same-length : tie.Need-same-length Inv-loop μ-loop
 same-length c = c .before .before .before .before .before .loop .inv .room
@@ -63,19 +50,19 @@ unfolding recordLines append
 returns c =
     let r = c .before .before in
     let l = r .before .before .before in
-    let broken = walk-broken (now (l .before .before .before .before .args .queue)) (l .loop .i) (r .before .before .loop-test .taken) (sym (r .record-of .ensures) ∙ c .enum-told .given .1) in
-    sym (ap (λ (x : Cut). append (written (l .loop .out) (l .loop .next)) (recordLines (l .loop .k) (l .loop .shelf) (x .records))) broken) ∙ l .loop .inv .left
+    let broken = no-record-at (now (l .before .before .before .before .args .queue)) (l .loop .i) (r .before .before .loop-test .taken) (sym (r .record-of .ensures) ∙ c .enum-told .given .1) in
+    sym (ap (λ (x : Cut Sent). append (written (l .loop .out) (l .loop .next)) (recordLines (l .loop .k) (l .loop .shelf) (x .items))) broken) ∙ l .loop .inv .left
 
 add-k : tie.Need-add-k Inv-loop μ-loop
 add-k c =
     let l = c .before .before .before .before .before .before .before .before .before .before .before .before in
     omega (arith, l .loop .inv .number, l .loop .inv .inside, l .before .before .before .before .good)
 
-on : (c : tie.After-struct-known Inv-loop μ-loop) → Onward (now (c .before .before .before .before .before .before .before .before .before .before .before .before .before .before .before .before .before .args .queue)) (c .before .before .before .before .before .before .before .before .before .before .before .before .before .loop .i) (c .before .before .before .before .before .before .before .before .head .given .0 .0)
+on : (c : tie.After-struct-known Inv-loop μ-loop) → RecordAt (now (c .before .before .before .before .before .before .before .before .before .before .before .before .before .before .before .before .before .args .queue)) (c .before .before .before .before .before .before .before .before .before .before .before .before .before .loop .i) (c .before .before .before .before .before .before .before .before .head .given .0 .0)
 on c =
     let r = c .before .before .before .before .before .before .before .before .before .before in
     let l = r .before .before .before in
-    walk-on (now (l .before .before .before .before .args .queue)) (l .loop .i) _ (l .loop .inv .inside) (sym (r .record-of .ensures) ∙ c .before .before .before .before .before .before .before .before .head .given .1)
+    record-at (now (l .before .before .before .before .args .queue)) (l .loop .i) _ (l .loop .inv .inside) (sym (r .record-of .ensures) ∙ c .before .before .before .before .before .before .before .before .head .given .1)
 
 add-i : tie.Need-add-i Inv-loop μ-loop
 add-i c = omega (arith, on c .inside, c .before .before .before .before .before .before .before .before .before .before .before .before .before .before .before .before .before .good)
@@ -99,7 +86,7 @@ loop-again c =
     let r = recordIn (restAt q (l .loop .i)) h in
     let x = written (l .loop .out) (l .loop .next) in
     let k = l .loop .k in
-    let rest = cutOf (drop (l .loop .i + h .end) q) .records in
+    let rest = cutOf recordStep (drop (l .loop .i + h .end) q) .items in
     record {
       inside = on c .inside;
       number = omega (arith, l .loop .inv .number, on c .more);
@@ -107,7 +94,7 @@ loop-again c =
       left = ap (λ (w : Written). append w (recordLines (k + 1) (f .file-record .result .shelf) rest)) (line .record-line .ensures)
           ∙ ap (λ (y : Filed). append (append x (recordLine k (r .slot) (r .issue) (y .answer))) (recordLines (k + 1) (y .shelf) rest)) (f .file-record .ensures)
           ∙ sym (one-record x k (l .loop .shelf) r rest)
-          ∙ sym (ap (λ (y : Cut). append x (recordLines k (l .loop .shelf) (y .records))) (on c .cut))
+          ∙ sym (ap (λ (y : Cut Sent). append x (recordLines k (l .loop .shelf) (y .items))) (on c .cut))
           ∙ l .loop .inv .left;
     }
 
@@ -118,7 +105,7 @@ returns-2 : tie.Need-returns-2 Inv-loop μ-loop
 unfolding recordLines append
 returns-2 c =
     let l = c .before in
-    sym (ap (λ (x : Cut). append (written (l .loop .out) (l .loop .next)) (recordLines (l .loop .k) (l .loop .shelf) (x .records))) (walk-end (now (l .before .before .before .before .args .queue)) (l .loop .i) (c .loop-test .left)))
+    sym (ap (λ (x : Cut Sent). append (written (l .loop .out) (l .loop .next)) (recordLines (l .loop .k) (l .loop .shelf) (x .items))) (end-at (now (l .before .before .before .before .args .queue)) (l .loop .i) (c .loop-test .left)))
     ∙ l .loop .inv .left
 
 pub record-lines-spec : {M : Type 1} → statement M
@@ -129,12 +116,12 @@ record-lines-spec =
     μ-loop
     free
     loop-holds
-    sub-rest
-    part-rest-start
-    part-rest-end
+    (λ c. search needs)
+    (λ c. search needs)
+    (λ c. search needs)
     free
-    enum-known-head
-    enum-told
+    (λ c. search needs)
+    (λ c. search needs)
     same-length
     returns
     free
