@@ -7,7 +7,19 @@ use mathlib.Core.Bool.{Bool, true, false, cond}
 use mathlib.Core.List.{List, [], _∷_}
 use lib.ListN.{length, drop, length-drop}
 use borrow.Author.Tests.{eq-eqb, ne-eqb}
-use Rattle.cutting.specs.Cuts.{Step, noItem, item, Cut, inFront, firstItem, atEnd, cutIn, cutOf, Advances}
+use Rattle.cutting.specs.Cuts.{Step, noItem, item, Cut, inFront, firstItem, atEnd, cutIn, cutOf}
+
+-- ---- what is asked of a step
+
+-- an item that is found has at least one octet, and ends within the octets
+pub record EndsWithin (s : List ℕ) (end : ℕ) : Type 0 where
+  pub some : 1 ≤ end
+  pub inside : end ≤ length s
+
+abbrev pub Advances : {A : Type 0} → (List ℕ → Step A) → Type 0
+Advances step = (s : List ℕ) (x : _) (end : ℕ) → step s ≡ item x end → EndsWithin s end
+
+-- ---- how octets are cut by it
 
 -- what holds of no octets, where no item stands, and of octets that start with an item if it holds of what stands behind it
 pub record ByItems {A : Type 0} (step : List ℕ → Step A) (P : List ℕ → Type 0) : Type 0 where

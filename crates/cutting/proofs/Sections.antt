@@ -12,9 +12,10 @@ use lib.Seq.{length-take-le, take-length, take-append-le}
 use borrow.Author.Tests.{ltb-false, le-ltb}
 use Rattle.octets.specs.Octets.{beAt}
 use Rattle.octets.proofs.Laws.{beAt-drop, beAt-ahead, beAt-take}
-use Rattle.cutting.specs.Cuts.{noItem, item, cutOf, Advances, LooksNoFurther, strung, FoundIn}
+use Rattle.cutting.specs.Cuts.{noItem, item, cutOf, strung}
 use Rattle.cutting.specs.Sections.{stretch, sectionStep, endOf, endAfter}
-use Rattle.cutting.proofs.Strung.{each-item, cut-strung, strung-cut}
+use Rattle.cutting.proofs.Cuts.{Advances}
+use Rattle.cutting.proofs.Strung.{LooksNoFurther, Spells, each-item, cut-strung, strung-cut}
 
 -- ---- a section that is cut has 5 octets or more, and as many as its own octets say, which are there; or there is none
 
@@ -72,9 +73,9 @@ pub record Sized (x : List ℕ) : Type 0 where
   pub least : 5 ≤ length x
   pub long : beAt x 1 4 ≡ length x
 
--- are found to be a section, and what is found is of this kind
-pub sized-found : (x : List ℕ) → Sized x → FoundIn sectionStep x x
-sized-found x z rest =
+-- spell a section, and what is found is of this kind
+pub sized-spells : (x : List ℕ) → Sized x → Spells sectionStep x x
+sized-spells x z rest =
     sections-look-no-further x rest x (length x)
     (whole-step x (record { least = omega (arith, z .least, z .long); inside = omega (arith, z .long) })
     ∙ ap (λ (n : ℕ). item (take n x) n) (z .long)
@@ -90,7 +91,7 @@ found-sized s x end e =
 
 -- sections strung together are cut into themselves, and what is cut into sections is these strung together
 pub cut-sections : (xs : List (List ℕ)) → ((x : List ℕ) → List·Memᴰ x xs → Sized x) → cutOf sectionStep (strung (λ x. x) xs) ≡ record { items = xs; whole = true }
-cut-sections xs z = cut-strung sectionStep sections-advance (λ x. x) xs (λ x m. sized-found x (z x m))
+cut-sections xs z = cut-strung sectionStep sections-advance (λ x. x) xs (λ x m. sized-spells x (z x m))
 
 pub sections-back : (s : List ℕ) → cutOf sectionStep s .whole ≡ true → (strung (λ x. x) (cutOf sectionStep s .items) ≡ s) × ((x : List ℕ) → List·Memᴰ x (cutOf sectionStep s .items) → Sized x)
 sections-back s w = (strung-cut sectionStep sections-advance (λ x. x) (λ s x end e. section-is s x end e .octets) s w, each-item sectionStep sections-advance Sized found-sized s)

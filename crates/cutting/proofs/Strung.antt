@@ -8,9 +8,18 @@ use mathlib.Core.Logic.{⊎-elim}
 use mathlib.Core.List.{List, [], _∷_, _++_, List·Memᴰ, List·Memᴰ·head, List·Memᴰ·tail, List·Memᴰ·cases-cons, List·Memᴰ·not-nil}
 use lib.ListN.{length, take, take-append-drop}
 use lib.Seq.{drop-append-seam, drop-append-le}
-use Rattle.cutting.specs.Cuts.{Step, noItem, item, Cut, inFront, cutOf, Advances, LooksNoFurther, strung, FoundIn}
-use Rattle.cutting.proofs.Cuts.{cut-item, cut-stopped, cut-end, by-items, by-cut}
+use Rattle.cutting.specs.Cuts.{Step, noItem, item, Cut, inFront, cutOf, strung}
+use Rattle.cutting.proofs.Cuts.{Advances, cut-item, cut-stopped, cut-end, by-items, by-cut}
 
+-- an item that is found is the same whatever stands behind it
+abbrev pub LooksNoFurther : {A : Type 0} → (List ℕ → Step A) → Type 0
+LooksNoFurther step = (p q : List ℕ) (x : _) (end : ℕ) → step p ≡ item x end → step (p ++ q) ≡ item x end
+
+-- octets spell an item: it is what is found where they stand, whatever stands behind them
+abbrev pub Spells : {A : Type 0} → (List ℕ → Step A) → List ℕ → A → Type 0
+Spells step octets x = (rest : List ℕ) → step (octets ++ rest) ≡ item x (length octets)
+
+-- the items of the one before those of the other
 abbrev both : {A : Type 0} → Cut A → Cut A → Cut A
 both a b = record { items = a .items ++ b .items; whole = b .whole }
 
@@ -42,8 +51,8 @@ module _ {A : Type 0} (step : List ℕ → Step A) (adv : Advances step) where
       (λ s y end xs e others x m. ⊎-elim (λ same. subst P (sym same) (found s y end e)) (others x) (List·Memᴰ·cases-cons m))
 
   module _ (spell : A → List ℕ) where
-    -- items whose octets are found to be them are cut from these octets
-    pub cut-strung : (xs : List A) → ((x : A) → List·Memᴰ x xs → FoundIn step (spell x) x) → cutOf step (strung spell xs) ≡ record { items = xs; whole = true }
+    -- what is spelled by items one behind the other is cut into these
+    pub cut-strung : (xs : List A) → ((x : A) → List·Memᴰ x xs → Spells step (spell x) x) → cutOf step (strung spell xs) ≡ record { items = xs; whole = true }
     unfolding strung
     cut-strung [] f = cut-end step adv [] (omega arith)
     cut-strung (x ∷ xs) f =

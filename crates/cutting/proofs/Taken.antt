@@ -15,7 +15,7 @@ use Rattle.cutting.specs.declared.Number.{Number}
 use Rattle.cutting.specs.declared.Number.the-variants.{Found, Malformed}
 use Rattle.cutting.proofs.OneSpelling.{behind, of-groups}
 
-groups-taken : (most : ℕ) (s : List ℕ) (n count : ℕ) → groups most s ≡ Found n count → (count ≤ length s) × (count ≤ most) × (1 ≤ count)
+pub groups-taken : (most : ℕ) (s : List ℕ) (n count : ℕ) → groups most s ≡ Found n count → (count ≤ length s) × (count ≤ most) × (1 ≤ count)
 unfolding groups
 groups-taken zero s n count e = let z : _≡_ {A = ℕ} 0 1 = cc in absurd (omega arith)
 groups-taken (suc most) [] n count e = let z : _≡_ {A = ℕ} 0 1 = cc in absurd (omega arith)

@@ -7,8 +7,8 @@ use mathlib.Core.Bool.{true, false}
 use mathlib.Core.List.{List, []}
 use lib.ListN.{length, take, drop, length-drop}
 use lib.Seq.{take-all, drop-drop}
-use Rattle.cutting.specs.Cuts.{Step, noItem, item, inFront, cutOf, Advances}
-use Rattle.cutting.proofs.Cuts.{cut-item, cut-stopped, cut-end}
+use Rattle.cutting.specs.Cuts.{Step, noItem, item, inFront, cutOf}
+use Rattle.cutting.proofs.Cuts.{Advances, cut-item, cut-stopped, cut-end}
 
 -- the octets from an index on, as they are lent
 abbrev pub restAt : List ℕ → ℕ → List ℕ

@@ -1,8 +1,7 @@
 -- Octets cut into items, one after the other, to the end or to where none stands. What an item is, and how many octets it takes, is said by a
 -- step: the records of a queue, the sections of a message.
 -- Assumes nothing.
-use Prim.Native.Nat.{ℕ, zero, suc, _≤_}
-use mathlib.Core.Path.{_≡_}
+use Prim.Native.Nat.{ℕ, zero, suc}
 use mathlib.Core.List.{List, [], _∷_, _++_}
 use mathlib.Core.Bool.{Bool, true, false, cond}
 use lib.Dec.{eqb}
@@ -40,27 +39,7 @@ cutIn step (suc most) s = cond (atEnd s) (record { items = []; whole = true }) (
 unfoldable pub cutOf : {A : Type 0} → (List ℕ → Step A) → List ℕ → Cut A
 cutOf step s = cutIn step (length s) s
 
--- ---- what is asked of a step
-
--- an item that is found has at least one octet, and ends within the octets
-pub record EndsWithin (s : List ℕ) (end : ℕ) : Type 0 where
-  pub some : 1 ≤ end
-  pub inside : end ≤ length s
-
-abbrev pub Advances : {A : Type 0} → (List ℕ → Step A) → Type 0
-Advances step = (s : List ℕ) (x : _) (end : ℕ) → step s ≡ item x end → EndsWithin s end
-
--- an item that is found is the same whatever stands behind it
-abbrev pub LooksNoFurther : {A : Type 0} → (List ℕ → Step A) → Type 0
-LooksNoFurther step = (p q : List ℕ) (x : _) (end : ℕ) → step p ≡ item x end → step (p ++ q) ≡ item x end
-
--- ---- items as octets
-
 -- the octets of these items, one behind the other
 unfoldable pub strung : {A : Type 0} → (A → List ℕ) → List A → List ℕ
 strung spell [] = []
 strung spell (x ∷ xs) = spell x ++ strung spell xs
-
--- an item's octets are found to be it, whatever stands behind them
-abbrev pub FoundIn : {A : Type 0} → (List ℕ → Step A) → List ℕ → A → Type 0
-FoundIn step octets x = (rest : List ℕ) → step (octets ++ rest) ≡ item x (length octets)

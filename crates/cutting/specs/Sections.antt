@@ -17,6 +17,7 @@ unfoldable pub sectionStep : List ℕ → Step (List ℕ)
 sectionStep s =
     cond (ltb (beAt s 1 4) 5) noItem (cond (ltb (length s) (beAt s 1 4)) noItem (item (take (beAt s 1 4) s) (beAt s 1 4)))
 
+-- where a section ends that is found, or 0
 abbrev pub endOf : ℕ → Step (List ℕ) → ℕ
 endOf start noItem = 0
 endOf start (item x size) = start + size

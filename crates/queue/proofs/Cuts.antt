@@ -10,10 +10,11 @@ use lib.ListN.{length, take, drop, length-drop, length-append}
 use lib.Seq.{take-append-le, drop-append-le}
 use borrow.Author.Tests.{ltb-false, le-ltb}
 use Rattle.cutting.specs.Numbers.{leadingNumber}
-use Rattle.cutting.specs.Cuts.{item, cutOf, Advances, LooksNoFurther}
+use Rattle.cutting.specs.Cuts.{item, cutOf}
 use Rattle.cutting.specs.declared.Number.the-variants.{Found}
 use Rattle.cutting.proofs.Taken.{taken, number-stands, number-ahead, number-after}
-use Rattle.cutting.proofs.Cuts.{by-cut}
+use Rattle.cutting.proofs.Cuts.{Advances, by-cut}
+use Rattle.cutting.proofs.Strung.{LooksNoFurther}
 use Rattle.cutting.proofs.Walks.{WalksOn, restAt, walk-on, walk-stopped, walk-end}
 use Rattle.filing.specs.Filing.{issueFrom}
 use Rattle.queue.specs.Records.{recordOf}
@@ -73,7 +74,7 @@ stands s h e =
 
 -- ---- it is the same whatever stands behind it
 
-record-ahead : (p q : List ℕ) (h : Head) → recordOf p ≡ Whole h → recordOf (p ++ q) ≡ Whole h
+pub record-ahead : (p q : List ℕ) (h : Head) → recordOf p ≡ Whole h → recordOf (p ++ q) ≡ Whole h
 unfolding recordOf
 record-ahead p q h e =
     let r = stands p h e in
@@ -87,7 +88,7 @@ record-ahead p q h e =
     )
     (λ i. Whole (record { slot = h .slot; issue = sym (r .named) i; start = sym (r .starts) i; end = sym (r .ends) i }))
 
-record-in : (p q : List ℕ) (h : Head) → recordOf p ≡ Whole h → recordIn (p ++ q) h ≡ recordIn p h
+pub record-in : (p q : List ℕ) (h : Head) → recordOf p ≡ Whole h → recordIn (p ++ q) h ≡ recordIn p h
 record-in p q h e =
     let r = stands p h e in
     let start : h .start ≤ length p = omega (arith, r .starts, r .inside) in
