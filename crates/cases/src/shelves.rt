@@ -3,7 +3,8 @@ use crate::lines;
 use crate::print;
 use filing::Answer;
 use filing::Filed;
-use filing::Issue;
+use filing::StoredIssue;
+use layout::Refusal;
 use shelf::Shelf;
 use shelf::Slot;
 
@@ -123,17 +124,10 @@ fn file_with<'a>(
     if order == b'b' {
         return filing::bench_reload(shelf, slot, s1, s3, s4, s5, s7);
     }
-    let issue = issue_of(lines::decimal(lines::word(lines::after_word(line, 2), 1)));
+    let stored = lines::decimal(lines::word(lines::after_word(line, 2), 1));
+    let StoredIssue::Is(issue) = filing::issue_from(stored as u64) else {
+        let answer = Answer::Refused(Refusal::of(19, 0));
+        return Filed { shelf, answer };
+    };
     filing::file_by_value(shelf, slot, issue, s1, s3, s4, s5, s7)
-}
-
-// Issue + 1, and 0 where none is named.
-fn issue_of(stored: usize) -> Issue {
-    if stored == 0 {
-        return Issue::NotNamed;
-    }
-    if 4294967296 < stored {
-        return Issue::NotNamed;
-    }
-    Issue::Named((stored - 1) as u32)
 }

@@ -7,6 +7,7 @@
 pub use Rattle.octets.proofs.Entries as octets-entries
 pub use Rattle.lent.proofs.Entries as lent-entries
 pub use Rattle.layout.proofs.Entries as layout-entries
+pub use Rattle.cutting.proofs.Entries as cutting-entries
 pub use Rattle.identification.proofs.Entries as identification-entries
 pub use Rattle.grid.proofs.Entries as grid-entries
 pub use Rattle.product.proofs.Entries as product-entries
@@ -61,7 +62,8 @@ use Rattle.filing.specs.Filing.{Filing, refusedFiling, accepted, filingOf, kept
 use Rattle.filing.specs.declared.Issue.{Issue}
 use Rattle.filing.specs.declared.Answer.the-variants.{Refused}
 use Rattle.filing.specs.declared.Filed.{Filed}
-use Rattle.queue.specs.Queues.{Sent, recordFiling, recordFiled, cutOf, recordsFiled, fromStart, queueRefusal, acceptedQueue, refusedQueue, queueFiled}
+use Rattle.cutting.specs.Cuts.{cutOf}
+use Rattle.queue.specs.Queues.{Sent, recordFiling, recordFiled, recordStep, recordsFiled, fromStart, queueRefusal, acceptedQueue, refusedQueue, queueFiled}
 use Rattle.queue.specs.declared.QueueAnswer.the-variants.{Refused as refusedAll}
 
 -- "A refusal changes no shelf ..": filing a field, by value and lent; a record of a queue; a queue.
@@ -91,7 +93,7 @@ pub queue-keeps-shelf : (shelf : Shelf) (q : List ℕ) (x : Refusal) → queueFi
 unfolding queueFiled
 queue-keeps-shelf shelf q x e = by-refusal (eqb (queueRefusal q) 0) e
   where
-    by-refusal : (t : Bool) → cond t (acceptedQueue (recordsFiled (fromStart shelf) (cutOf q .records))) (refusedQueue shelf (queueRefusal q)) .answer ≡ refusedAll x → cond t (acceptedQueue (recordsFiled (fromStart shelf) (cutOf q .records))) (refusedQueue shelf (queueRefusal q)) .shelf ≡ shelf
+    by-refusal : (t : Bool) → cond t (acceptedQueue (recordsFiled (fromStart shelf) (cutOf recordStep q .items))) (refusedQueue shelf (queueRefusal q)) .answer ≡ refusedAll x → cond t (acceptedQueue (recordsFiled (fromStart shelf) (cutOf recordStep q .items))) (refusedQueue shelf (queueRefusal q)) .shelf ≡ shelf
     by-refusal true e = let z : _≡_ {A = ℕ} 0 1 = cc in absurd (omega arith)
     by-refusal false e = refl
 

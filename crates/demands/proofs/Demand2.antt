@@ -81,7 +81,7 @@ use Rattle.packing.specs.declared.DataSection.{DataSection}
 use Rattle.packing.proofs.AcceptedExactlyWhen.{accepted-exactly-when₅, accepted-follows₅, accepted-exactly-when₇, accepted-follows₇}
 use Rattle.packing.proofs.FieldsCoverOnce.{covered₅, covered₇}
 use Rattle.field.specs.Field.{FieldOutcome, readField, onward, packedOutcome, told as toldField, fieldOutcome}
-use Rattle.field.specs.Accepted.{FollowsField, Accepted as AcceptedField}
+use Rattle.field.specs.Accepted.{FollowsField, AcceptedField}
 use Rattle.field.specs.declared.Answer.{Answer as FieldAnswer}
 use Rattle.field.specs.declared.Answer.the-variants.{Read as ReadField}
 use Rattle.field.specs.declared.Field.{Field as WholeField}

@@ -30,7 +30,9 @@ use Rattle.filing.specs.Filing.{Filing, refusedFiling, cardOf, cardAt, foreignC
 use Rattle.filing.proofs.CardOctets.{card-octets}
 use Rattle.filing.proofs.SaidOfTheSlots.{said}
 use Rattle.filing.specs.declared.Filed.{Filed}
-use Rattle.queue.specs.Queues.{Sent, between, bodyFiling, recordFiling, recordFiled, recordsFiled, fromStart, cutOf, queueRefusal, refusedQueue, acceptedQueue, queueFiled}
+use Rattle.cutting.specs.Cuts.{cutOf}
+use Rattle.cutting.specs.Sections.{stretch}
+use Rattle.queue.specs.Queues.{Sent, bodyFiling, recordFiling, recordFiled, recordStep, recordsFiled, fromStart, queueRefusal, refusedQueue, acceptedQueue, queueFiled}
 use Rattle.queue.specs.Counting.{Reports}
 use Rattle.queue.specs.Bodies.{bodyOf}
 use Rattle.queue.specs.declared.Body.{Body}
@@ -39,10 +41,10 @@ use Rattle.queue.specs.declared.Counts.{Counts}
 use Rattle.queue.specs.declared.QueueAnswer.{QueueAnswer}
 use Rattle.queue.specs.declared.QueueAnswer.the-variants.{Filed as filedAll}
 use Rattle.queue.specs.declared.QueueFiled.{QueueFiled}
-use Rattle.queue.specs.History.{Field, History, start, file, queue, join, shelfOf, acceptedAt, acceptedIn, acceptedOf}
-use Rattle.queue.proofs.Histories.{kept, same-shelf}
+use Rattle.queue.specs.History.{FiledField, History, start, file, queue, join, shelfOf, acceptedAt, acceptedIn, acceptedOf}
+use Rattle.queue.proofs.Histories.{tidy, greatest-card as greatest, any-order as in-any-order}
 use Rattle.queue.proofs.Counting.{queue-counts}
-use Rattle.queue.proofs.QueueIsJoin.{queue-joins}
+use Rattle.queue.proofs.QueueIsJoining.{queue-is-joining as is-joining}
 use Rattle.queue.proofs.RecordsAsCards.{as-if-never-sent}
 
 -- ---- "After any fields and queues filed and any shelves joined": what the entries make is the end of a history
@@ -51,7 +53,7 @@ pub made-by-empty : (r : Shelf) → r ≡ emptyShelf → r ≡ shelfOf start
 unfolding shelfOf
 made-by-empty r e = e
 
-pub made-by-filing : (h : History) (slot : ℕ) (x : Field) (r : Filed) → r ≡ filedOf (shelfOf h) slot (x .issue) (x .s1) (x .s3) (x .s4) (x .s5) (x .s7) → r .shelf ≡ shelfOf (file slot x h)
+pub made-by-filing : (h : History) (slot : ℕ) (x : FiledField) (r : Filed) → r ≡ filedOf (shelfOf h) slot (x .issue) (x .s1) (x .s3) (x .s4) (x .s5) (x .s7) → r .shelf ≡ shelfOf (file slot x h)
 unfolding shelfOf
 made-by-filing h slot x r e = ap (λ (y : Filed). y .shelf) e
 
@@ -83,7 +85,7 @@ made-by-record h x r e = by-body (bodyOf (x .body)) refl
     by-body (Five ends) f =
         let s = x .body in (
           file (x .slot)
-              (record { issue = x .issue; s1 = between s 0 (ends .one); s3 = between s (ends .one) (ends .three); s4 = between s (ends .three) (ends .four); s5 = between s (ends .four) (ends .five); s7 = between s (ends .five) (length s) })
+              (record { issue = x .issue; s1 = stretch s 0 (ends .one); s3 = stretch s (ends .one) (ends .three); s4 = stretch s (ends .three) (ends .four); s5 = stretch s (ends .four) (ends .five); s7 = stretch s (ends .five) (length s) })
               h,
           shelf-by (Five ends) f,
           accepted-by (Five ends) f,
@@ -98,13 +100,13 @@ card-by-octets = card-octets
 -- ---- "each slot holds the greatest card ever accepted for it, here or in a shelf joined in directly or through others, or is empty"
 
 pub greatest-card : (h : History) (slot : ℕ) → slot < 64 → Keeps (acceptedAt slot h) (slotAt (shelfOf h) slot)
-greatest-card = kept
+greatest-card = greatest
 
 -- ---- "in any order and with repeats": shelves for whose slots the same cards were accepted are one shelf
 
 pub any-order : (g h : History) → ((slot : ℕ) → slot < 64 → (c : Card) → List·Memᴰ c (acceptedAt slot g) → List·Memᴰ c (acceptedAt slot h))
     → ((slot : ℕ) → slot < 64 → (c : Card) → List·Memᴰ c (acceptedAt slot h) → List·Memᴰ c (acceptedAt slot g)) → shelfOf g ≡ shelfOf h
-any-order = same-shelf
+any-order = in-any-order
 
 -- ---- "So joining commutes, associates and is idempotent"
 
@@ -121,7 +123,7 @@ join-idempotent = shelf-join .idem
 
 pub queue-is-joining : (q : List ℕ) (h : History) → shelfOf (queue q h) ≡ joinShelf (shelfOf h) (shelfOf (queue q start))
 unfolding shelfOf
-queue-is-joining = queue-joins
+queue-is-joining q h = is-joining q (shelfOf h) (tidy h)
 
 -- ---- "Filing a queue reports kept (the slot changed), passed (it did not) and refused; the three sum to the records": the counts are defined by
 -- the slots before and after each record. Every shelf has 64 slots
@@ -129,7 +131,7 @@ queue-is-joining = queue-joins
 said-by : (s : Shelf) (slot : ℕ) (f : Filing) (r : Filed) → length (s .slots) ≡ 64 → r ≡ filedBy s slot f → Said s slot (r .shelf) (r .answer)
 said-by s slot f r long e = subst (λ (y : Filed). Said s slot (y .shelf) (y .answer)) (sym e) (said s slot f long)
 
-pub filing-says : (s : Shelf) (slot : ℕ) (x : Field) (r : Filed) → length (s .slots) ≡ 64 → r ≡ filedOf s slot (x .issue) (x .s1) (x .s3) (x .s4) (x .s5) (x .s7) → Said s slot (r .shelf) (r .answer)
+pub filing-says : (s : Shelf) (slot : ℕ) (x : FiledField) (r : Filed) → length (s .slots) ≡ 64 → r ≡ filedOf s slot (x .issue) (x .s1) (x .s3) (x .s4) (x .s5) (x .s7) → Said s slot (r .shelf) (r .answer)
 unfolding filedOf
 filing-says s slot x = said-by s slot (filingOf slot (x .issue) (x .s1) (x .s3) (x .s4) (x .s5) (x .s7))
 
@@ -137,13 +139,13 @@ pub record-says : (s : Shelf) (x : Sent) (r : Filed) → length (s .slots) ≡ 6
 unfolding recordFiled
 record-says s x = said-by s (x .slot) (recordFiling x)
 
-pub queue-reports : (s : Shelf) (q : List ℕ) (r : QueueFiled) (n : Counts) → r ≡ queueFiled s q → r .answer ≡ filedAll n → Reports s (cutOf q .records) n
+pub queue-reports : (s : Shelf) (q : List ℕ) (r : QueueFiled) (n : Counts) → r ≡ queueFiled s q → r .answer ≡ filedAll n → Reports s (cutOf recordStep q .items) n
 queue-reports s q r n e f =
     queue-counts q s (record { shelf = r .shelf; counts = n }) (sym e ∙ ap (λ (a : QueueAnswer). record { shelf = r .shelf; answer = a }) f)
 
 -- ---- a refused field, record or queue counts as never sent
 
-pub refused-field : (slot : ℕ) (x : Field) (h : History) (number section place : ℕ) → filingOf slot (x .issue) (x .s1) (x .s3) (x .s4) (x .s5) (x .s7) ≡ refusedFiling number section place
+pub refused-field : (slot : ℕ) (x : FiledField) (h : History) (number section place : ℕ) → filingOf slot (x .issue) (x .s1) (x .s3) (x .s4) (x .s5) (x .s7) ≡ refusedFiling number section place
     → (shelfOf (file slot x h) ≡ shelfOf h) × ((n : ℕ) → acceptedAt n (file slot x h) ≡ acceptedAt n h)
 unfolding shelfOf acceptedAt acceptedOf filedOf filedBy
 refused-field slot x h number section place e = (
@@ -158,6 +160,6 @@ refused-record earlier later r s = as-if-never-sent earlier later r (fromStart s
 pub refused-queue : (q : List ℕ) (h : History) → eqb (queueRefusal q) 0 ≡ false → (shelfOf (queue q h) ≡ shelfOf h) × ((n : ℕ) → acceptedAt n (queue q h) ≡ acceptedAt n h)
 unfolding shelfOf acceptedAt acceptedIn queueFiled
 refused-queue q h e = (
-  ap (λ (t : Bool). cond t (acceptedQueue (recordsFiled (fromStart (shelfOf h)) (cutOf q .records))) (refusedQueue (shelfOf h) (queueRefusal q)) .shelf) e,
-  (λ n. ap (λ (t : Bool). acceptedAt n h ++ acceptedIn n (cond t (cutOf q .records) [])) e ∙ append-nil (acceptedAt n h)),
+  ap (λ (t : Bool). cond t (acceptedQueue (recordsFiled (fromStart (shelfOf h)) (cutOf recordStep q .items))) (refusedQueue (shelfOf h) (queueRefusal q)) .shelf) e,
+  (λ n. ap (λ (t : Bool). acceptedAt n h ++ acceptedIn n (cond t (cutOf recordStep q .items) [])) e ∙ append-nil (acceptedAt n h)),
 )

@@ -23,10 +23,9 @@ use Rattle.shelf.specs.declared.Shelf.{Shelf}
 use Rattle.shelf_octets.specs.ShelfOctets.{shelfIn}
 use Rattle.filing.specs.declared.Answer.{Answer}
 use Rattle.filing.specs.declared.Answer.the-variants.{Kept, Passed, Refused as refusedField}
-use Rattle.filing.specs.Filing.{filedOf}
+use Rattle.filing.specs.Filing.{filedOf, issueFrom}
 use Rattle.filing.specs.Refused.{filingTable}
 use Rattle.filing.proofs.RefusalNumbers.{filing-refuses}
-use Rattle.queue.specs.Records.{issueFrom}
 use Rattle.queue.specs.declared.QueueAnswer.{QueueAnswer}
 use Rattle.queue.specs.declared.QueueAnswer.the-variants.{Filed as filedAll, Refused as refusedAll}
 use Rattle.queue.specs.Queues.{queueFiled}

@@ -1,14 +1,14 @@
 -- Shelves as octets: each shelf that the entries make of octets is read back from its own octets, so that demand 3 holds of octets that are
 -- stored or sent between two calls. Joining octets commutes, associates and is idempotent.
 -- Assumes nothing.
-use Prim.Native.Nat.{ℕ, zero, suc, _-_, _^_, _<_, _≤_}
+use Prim.Native.Nat.{ℕ, _-_, _^_, _<_, _≤_}
 use native.Mathlib.Omega.{arith}
 use mathlib.Core.Path.{_≡_, refl, subst⁻¹}
 use mathlib.Core.Bool.{Bool, true, false, cond}
 use mathlib.Core.List.{List, [], _∷_}
 use lib.Dec.{eqb, ltb}
 use lib.IntN.{ℤ, pos, negsuc, natAbs, _*ℤ_}
-use lib.ListN.{length, drop}
+use lib.ListN.{drop}
 use lib.Signed.{mag}
 use Rattle.octets.specs.Octets.{beAt, signOf, realYear, AllOctets}
 use Rattle.octets.proofs.Laws.{beAt-below, part-length, take-octets, drop-octets}
@@ -26,21 +26,22 @@ use Rattle.shelf_octets.specs.ShelfOctets.{shelfIn, asOctets, joinOctets, Held,
 use Rattle.shelf_octets.proofs.Laws as laws
 use Rattle.filing.specs.declared.Issue.{Issue}
 use Rattle.filing.specs.declared.Issue.the-variants.{NotNamed, Named}
-use Rattle.filing.specs.Filing.{Filing, refusedFiling, accepted, issueOf, cardOf, foreignCalendar, ofField, filingOf, filedBy, filedOf}
+use Rattle.filing.specs.Filing.{Filing, refusedFiling, accepted, issueOf, cardOf, foreignCalendar, ofField, filingOf, filedBy, filedOf, issueFrom}
 use Rattle.filing.proofs.CardOctets.{card-octets}
+use Rattle.cutting.specs.Cuts.{cutOf}
+use Rattle.cutting.specs.Sections.{stretch}
+use Rattle.cutting.proofs.Taken.{taken}
 use Rattle.queue.specs.declared.Head.{Head}
 use Rattle.queue.specs.declared.Progress.{Progress}
 use Rattle.queue.specs.declared.Body.{Body}
 use Rattle.queue.specs.declared.Body.the-variants.{Five, NotFive}
-use Rattle.queue.specs.declared.Record.{Record}
-use Rattle.queue.specs.declared.Record.the-variants.{Whole, Broken}
-use Rattle.queue.specs.Records.{recordOf, issueFrom}
+use Rattle.queue.specs.declared.Record.the-variants.{Whole}
+use Rattle.queue.specs.Records.{recordOf}
 use Rattle.queue.specs.Bodies.{bodyOf}
-use Rattle.queue.specs.Queues.{Sent, between, recordIn, bodyFiling, recordFiling, recordFiled, ahead, atEnd, cutIn, cutOf, oneMore, recordsFiled, fromStart, queueRefusal, refusedQueue, acceptedQueue, queueFiled}
+use Rattle.queue.specs.Queues.{Sent, recordIn, bodyFiling, recordFiling, recordFiled, recordStep, oneMore, recordsFiled, fromStart, queueRefusal, refusedQueue, acceptedQueue, queueFiled}
 use Rattle.queue.specs.History.{History, start, file, queue, join, shelfOf, acceptedAt}
-use Rattle.queue.proofs.Histories.{kept}
-use Rattle.queue.proofs.Taken.{taken}
-use Rattle.queue.proofs.Cuts.{stands}
+use Rattle.queue.proofs.Histories.{greatest-card}
+use Rattle.queue.proofs.Cuts.{stands, by-records}
 use Rattle.demands.specs.Histories.{Given}
 
 -- ---- the card of a field that is accepted
@@ -140,18 +141,8 @@ record-told s h a e =
       body = take-octets (h .end - h .start) (drop (h .start) s) (drop-octets (h .start) s a);
     }
 
-cut-told : (most : ℕ) (s : List ℕ) → AllOctets s → AllTold (cutIn most s .records)
-unfolding cutIn
-cut-told zero s a = tt
-cut-told (suc most) s a = by-end (cut-told most) (atEnd s)
-  where
-    by-record : ((rest : List ℕ) → AllOctets rest → AllTold (cutIn most rest .records)) → (r : Record) → recordOf s ≡ r → AllTold (ahead s r (λ rest. cutIn most rest) .records)
-    by-record others Broken e = tt
-    by-record others (Whole h) e = (record-told s h a e, others (drop (h .end) s) (drop-octets (h .end) s a))
-
-    by-end : ((rest : List ℕ) → AllOctets rest → AllTold (cutIn most rest .records)) → (t : Bool) → AllTold (cond t (record { records = []; whole = true }) (ahead s (recordOf s) (λ rest. cutIn most rest)) .records)
-    by-end others true = tt
-    by-end others false = by-record others (recordOf s) refl
+cut-told : (s : List ℕ) → AllOctets s → AllTold (cutOf recordStep s .items)
+cut-told = by-records (λ s rs. AllOctets s → AllTold rs) (λ s a. tt) (λ s h rs e others a. (record-told s h a e, others (drop-octets (h .end) s a)))
 
 record-held : (r : Sent) → Told r → HeldIf (recordFiling r)
 unfolding recordFiling bodyFiling
@@ -159,7 +150,7 @@ record-held r t = by-body (bodyOf (r .body))
   where
     by-body : (b : Body) → HeldIf (bodyFiling (r .slot) (r .issue) (r .body) b)
     by-body NotFive = tt
-    by-body (Five ends) = filing-held (r .slot) (r .issue) (between (r .body) 0 (ends .one)) _ _ _ _ (take-octets (ends .one - 0) (r .body) (t .body)) (t .issue)
+    by-body (Five ends) = filing-held (r .slot) (r .issue) (stretch (r .body) 0 (ends .one)) _ _ _ _ (take-octets (ends .one - 0) (r .body) (t .body)) (t .issue)
 
 records-stored : (rs : List Sent) (p : Progress) → AllTold rs → Stored (p .shelf) → Stored (recordsFiled p rs .shelf)
 unfolding recordsFiled recordFiled
@@ -169,11 +160,11 @@ records-stored (r ∷ rs) p t s =
     (filed-stored (p .shelf) (r .slot) (recordFiling r) s (record-held r (t .0)))
 
 pub stored-queue : (s : Shelf) (q : List ℕ) → Stored s → AllOctets q → Stored (queueFiled s q .shelf)
-unfolding queueFiled cutOf
+unfolding queueFiled
 stored-queue s q t a = by-refusal (eqb (queueRefusal q) 0)
   where
-    by-refusal : (b : Bool) → Stored (cond b (acceptedQueue (recordsFiled (fromStart s) (cutOf q .records))) (refusedQueue s (queueRefusal q)) .shelf)
-    by-refusal true = records-stored (cutOf q .records) (fromStart s) (cut-told (length q) q a) t
+    by-refusal : (b : Bool) → Stored (cond b (acceptedQueue (recordsFiled (fromStart s) (cutOf recordStep q .items))) (refusedQueue s (queueRefusal q)) .shelf)
+    by-refusal true = records-stored (cutOf recordStep q .items) (fromStart s) (cut-told q a) t
     by-refusal false = t
 
 -- ---- each is read back from its octets
@@ -202,7 +193,7 @@ pub history-read-back : (h : History) → Given h → shelfIn (asOctets (shelfOf
 history-read-back h g = laws.read-back (shelfOf h) (stored-history h g)
 
 pub octets-greatest-card : (h : History) → Given h → (slot : ℕ) → slot < 64 → Keeps (acceptedAt slot h) (slotAt (shelfIn (asOctets (shelfOf h))) slot)
-octets-greatest-card h g slot l = subst⁻¹ (λ (s : Shelf). Keeps (acceptedAt slot h) (slotAt s slot)) (history-read-back h g) (kept h slot l)
+octets-greatest-card h g slot l = subst⁻¹ (λ (s : Shelf). Keeps (acceptedAt slot h) (slotAt s slot)) (history-read-back h g) (greatest-card h slot l)
 
 -- ---- joining octets
 

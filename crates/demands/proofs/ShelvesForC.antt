@@ -15,9 +15,8 @@ use Rattle.shelf.specs.declared.Shelf.{Shelf}
 use Rattle.shelf.specs.Shelves.{slotAt, joinShelf}
 use Rattle.shelf_octets.specs.ShelfOctets.{shelfIn, asOctets, joinOctets}
 use Rattle.shelf_octets.proofs.Laws.{empty-zeros}
-use Rattle.filing.specs.Filing.{filedOf}
+use Rattle.filing.specs.Filing.{filedOf, issueFrom}
 use Rattle.queue.specs.Queues.{queueFiled}
-use Rattle.queue.specs.Records.{issueFrom}
 use Rattle.queue.specs.History.{History, start, file, queue, join, shelfOf}
 use Rattle.lent.specs.Lent.{Done, done, doneBoth, withCount, ifRoom}
 use Rattle.lent.proofs.Answers.{room-lent}

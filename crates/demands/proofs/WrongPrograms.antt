@@ -26,7 +26,8 @@ use Rattle.shelf.proofs.Laws.{put-same}
 use Rattle.filing.specs.Filing.{filedOf}
 use Rattle.filing.specs.declared.Issue.{Issue}
 use Rattle.filing.specs.declared.Answer.the-variants.{Kept}
-use Rattle.queue.specs.Queues.{cutIn, cutOf, recordsFiled, fromStart, queueRefusal, acceptedQueue, queueFiled}
+use Rattle.cutting.specs.Cuts.{cutIn, cutOf}
+use Rattle.queue.specs.Queues.{recordsFiled, fromStart, queueRefusal, acceptedQueue, queueFiled}
 use Rattle.demands.proofs.Demand3.{filing-says}
 
 -- ---- a shelf that stays empty: after any card was put to a slot, that slot is held

@@ -5,9 +5,8 @@ use mathlib.Core.Path.{_≡_}
 use mathlib.Core.List.{List}
 use Rattle.octets.specs.Octets.{AllOctets}
 use Rattle.shelf_octets.specs.ShelfOctets.{asOctets}
-use Rattle.filing.specs.Filing.{issueOf}
-use Rattle.queue.specs.Records.{issueFrom}
-use Rattle.queue.specs.History.{Field, History, start, file, queue, join, shelfOf}
+use Rattle.filing.specs.Filing.{issueOf, issueFrom}
+use Rattle.queue.specs.History.{FiledField, History, start, file, queue, join, shelfOf}
 
 -- what a history was given is octets, and issues of 32 bits
 unfoldable pub Given : History → Type 0
@@ -22,5 +21,5 @@ pub record Leaves (h : History) (octets : List ℕ) : Type 0 where
   pub left : octets ≡ asOctets (shelfOf h)
 
 -- a field as `skogmund_file` is given it, with its issue as a queue has it
-abbrev pub fieldOf : ℕ → List ℕ → List ℕ → List ℕ → List ℕ → List ℕ → Field
+abbrev pub fieldOf : ℕ → List ℕ → List ℕ → List ℕ → List ℕ → List ℕ → FiledField
 fieldOf stored s1 s3 s4 s5 s7 = record { issue = issueFrom stored; s1 = s1; s3 = s3; s4 = s4; s5 = s5; s7 = s7 }

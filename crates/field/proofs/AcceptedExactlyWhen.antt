@@ -17,15 +17,15 @@ use Rattle.packing.proofs.AcceptedExactlyWhen.{accepted-exactly-when₅, accept
 use Rattle.packing.specs.Section5.{valuesAt, bitsAt}
 use Rattle.packing.specs.Section7.{outcome₇}
 use Rattle.field.specs.Field.{FieldOutcome, onward, packedOutcome, pointsAt, fieldOutcome}
-use Rattle.field.specs.Accepted.{FollowsField, Accepted}
+use Rattle.field.specs.Accepted.{FollowsField, AcceptedField}
 
 -- a section on the way to a field that is accepted was read, and so was the rest
-onward-read : (o : Outcome) (next : List Value → FieldOutcome) → Accepted (onward o next) → (vs : List Value) × (o ≡ read vs) × Accepted (next vs)
+onward-read : (o : Outcome) (next : List Value → FieldOutcome) → AcceptedField (onward o next) → (vs : List Value) × (o ≡ read vs) × AcceptedField (next vs)
 unfolding onward
 onward-read (refused number section place) next a = absurd a
 onward-read (read vs) next a = (vs, refl, a)
 
-read-onward : (o : Outcome) (next : List Value → FieldOutcome) (vs : List Value) → o ≡ read vs → Accepted (next vs) → Accepted (onward o next)
+read-onward : (o : Outcome) (next : List Value → FieldOutcome) (vs : List Value) → o ≡ read vs → AcceptedField (next vs) → AcceptedField (onward o next)
 unfolding onward
 read-onward o next vs e a = rw e a
 
@@ -34,7 +34,7 @@ module _ (s1 s3 s4 s5 s7 : List ℕ) where
   abbrev against : List Reason
   against = reason 14 (not (eqb (valuesAt s5) (pointsAt s3))) ∷ []
 
-  follows : Accepted (fieldOutcome s1 s3 s4 s5 s7) → FollowsField s1 s3 s4 s5 s7
+  follows : AcceptedField (fieldOutcome s1 s3 s4 s5 s7) → FollowsField s1 s3 s4 s5 s7
   unfolding fieldOutcome packedOutcome NoneHold
   follows a =
       let one = onward-read _ _ a in
@@ -52,7 +52,7 @@ module _ (s1 s3 s4 s5 s7 : List ℕ) where
         filled = accepted-exactly-when₇ (valuesAt s5) (bitsAt s5) s7 .0 (seven .0, rest .1);
       }
 
-  accepts : FollowsField s1 s3 s4 s5 s7 → Accepted (fieldOutcome s1 s3 s4 s5 s7)
+  accepts : FollowsField s1 s3 s4 s5 s7 → AcceptedField (fieldOutcome s1 s3 s4 s5 s7)
   unfolding fieldOutcome packedOutcome NoneHold
   accepts f =
       let one = exactly₁ s1 .1 (f .identified) in
@@ -67,5 +67,5 @@ module _ (s1 s3 s4 s5 s7 : List ℕ) where
       (read-onward _ _ (five .0) (five .1)
       (read-onward _ _ (seven .0) (fits ∙ seven .1) tt))))
 
-  pub accepted-exactly-when : Accepted (fieldOutcome s1 s3 s4 s5 s7) ↔ FollowsField s1 s3 s4 s5 s7
+  pub accepted-exactly-when : AcceptedField (fieldOutcome s1 s3 s4 s5 s7) ↔ FollowsField s1 s3 s4 s5 s7
   accepted-exactly-when = (follows, accepts)

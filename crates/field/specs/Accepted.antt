@@ -24,6 +24,6 @@ pub record FollowsField (s1 s3 s4 s5 s7 : List ℕ) : Type 0 where
   pub filled : Follows₇ (valuesAt s5) (bitsAt s5) s7
 
 -- the field is read, and not refused
-abbrev pub Accepted : FieldOutcome → Type 0
-Accepted (refusedField number section place) = ⊥
-Accepted (readField one three four five) = Unit {0}
+abbrev pub AcceptedField : FieldOutcome → Type 0
+AcceptedField (refusedField number section place) = ⊥
+AcceptedField (readField one three four five) = Unit {0}

@@ -2,3 +2,4 @@ pub mod SaidOfTheSlots
 pub mod CardOctets
 pub mod Entries
 pub mod RefusalNumbers
+pub mod StoredIssues

@@ -1,6 +1,6 @@
 -- Filing a field to a slot: 16, then the field's refusals, then 17; otherwise the slot keeps the greater card.
 -- Assumes nothing.
-use Prim.Native.Nat.{ℕ}
+use Prim.Native.Nat.{ℕ, _-_}
 use mathlib.Core.Path.{_≡_}
 use mathlib.Core.Logic.{_≢_}
 use mathlib.Core.List.{List}
@@ -19,6 +19,8 @@ use Rattle.shelf.specs.declared.Shelf.{Shelf}
 use Rattle.shelf.specs.declared.PutDone.{PutDone}
 use Rattle.filing.specs.declared.Issue.{Issue}
 use Rattle.filing.specs.declared.Issue.the-variants.{NotNamed, Named}
+use Rattle.filing.specs.declared.StoredIssue.{StoredIssue}
+use Rattle.filing.specs.declared.StoredIssue.the-variants.{Is, TooLarge}
 use Rattle.filing.specs.declared.Answer.{Answer}
 use Rattle.filing.specs.declared.Answer.the-variants.{Kept, Passed, Refused}
 use Rattle.filing.specs.declared.Filed.{Filed}
@@ -32,6 +34,14 @@ defaultIssue = 0
 abbrev pub issueOf : Issue → ℕ
 issueOf NotNamed = defaultIssue
 issueOf (Named n) = n
+
+-- queues and callers store the issue + 1, and 0 where none is named
+abbrev pub issueFrom : ℕ → Issue
+issueFrom stored = cond (eqb stored 0) NotNamed (Named (stored - 1))
+
+-- a number above 4,294,967,296 stores none
+abbrev pub storedIssue : ℕ → StoredIssue
+storedIssue stored = cond (ltb 4294967296 stored) TooLarge (Is (issueFrom stored))
 
 -- the real reference time of section 1, by the values that are read of it, the issue, and octets 8-34 of section 4
 unfoldable pub cardOf : List Value → ℕ → List ℕ → Card

@@ -1,7 +1,7 @@
 // Filing: a field is read, and its card put to a slot of the shelf.
 ghost use mathlib.Core.Path.{_≡_};
 ghost use Rattle.identification.specs.Section1.{valuesIn};
-ghost use Rattle.filing.specs.Filing.{issueOf, cardOf, foreignCalendar, afterPut, filedBy, filedOf, refusedFiling};
+ghost use Rattle.filing.specs.Filing.{issueOf, storedIssue, cardOf, foreignCalendar, afterPut, filedBy, filedOf, refusedFiling};
 use card::Card;
 use identification::CalendarCode;
 use identification::Identification;
@@ -13,6 +13,12 @@ use shelf::Shelf;
 pub enum Issue {
     NotNamed,
     Named(u32),
+}
+
+// What a number says that stores an issue: the issue, or that it is above 4,294,967,296 and stores none.
+pub enum StoredIssue {
+    Is(Issue),
+    TooLarge,
 }
 
 // What a caller gets who names no issue.
@@ -110,6 +116,19 @@ pub fn bench_reload<'a>(
         section5,
         section7,
     )
+}
+
+// An issue is stored as issue + 1, and as 0 where none is named.
+pub fn issue_from(stored: u64) -> StoredIssue
+    ensures { λ r. ⌜ r ≡ storedIssue stored ⌝ }
+{
+    if 4294967296 < stored {
+        return StoredIssue::TooLarge;
+    }
+    if stored == 0 {
+        return StoredIssue::Is(Issue::NotNamed);
+    }
+    StoredIssue::Is(Issue::Named((stored - 1) as u32))
 }
 
 fn refused(shelf: Shelf, number: u8, section: u8) -> Filed

@@ -28,9 +28,6 @@ signed16 = record { takes = λ lent given. tt; ends = code.signed16.Met.met; tel
 pub signed32 : Entry code.signed32.Reads.Asked code.signed32.Reads.Learnt code.signed32.Statement.statement (λ given r later. r ≡ signOf 4 (given .0))
 signed32 = record { takes = λ lent given. tt; ends = code.signed32.Met.met; tells = λ lent given r later e. e }
 
-pub signed8-at : Entry code.signed8_at.Reads.Asked code.signed8_at.Reads.Learnt code.signed8_at.Statement.statement (λ given r later. r ≡ signOf 1 (beAt (now (given .0)) (given .1 .0) 1))
-signed8-at = record { takes = λ lent given. tt; ends = code.signed8_at.Met.met; tells = λ lent given r later e. e }
-
 pub signed16-at : Entry code.signed16_at.Reads.Asked code.signed16_at.Reads.Learnt code.signed16_at.Statement.statement (λ given r later. r ≡ signOf 2 (beAt (now (given .0)) (given .1 .0) 2))
 signed16-at = record { takes = λ lent given. tt; ends = code.signed16_at.Met.met; tells = λ lent given r later e. e }
 

@@ -6,8 +6,8 @@ use Prim.Native.Nat.{ℕ, zero, suc, _+_, _*_, _^_, _≤_, _<_}
 use native.Mathlib.Nat.{zero-mul, zero-add, add-mul, mul-assoc, pow-succ', mul-le-mul-right, mul-le-mul-left, le-of-lt, le-antisymm, lt-of-le-of-lt, mul-lt-mul-of-pos-right, suc-add, add-suc, add-zero}
 use native.Mathlib.Omega.{arith}
 use native.Mathlib.Numerals.{add-one}
-use lib.ListN.{length, take, drop, getD, replicate, length-append, List·getD-eq-default}
-use lib.Seq.{getD-drop, drop-cons, take-append-seam, drop-append-seam}
+use lib.ListN.{length, take, drop, getD, replicate, length-append, take-append-drop, List·getD-append, List·getD-eq-default}
+use lib.Seq.{getD-drop, drop-cons, length-take-le, take-append-seam, drop-append-seam}
 use lib.Pow.{pow-add, pow-pos}
 use lib.Dec.{lit<, ltb}
 use borrow.Author.Tests.{ltb-true, ltb-false}
@@ -74,6 +74,14 @@ part-front xs ys = part-take (xs ++ ys) 0 (length xs) (simp length-append (omega
 pub part-behind : (xs ys : List ℕ) (at width : ℕ) → 1 ≤ at → part (xs ++ ys) (at + length xs) width ≡ part ys at width
 part-behind xs ys at width h =
     sym (part-drop (xs ++ ys) (length xs) at width h) ∙ ap (λ (s : List ℕ). part s at width) (drop-append-seam xs ys)
+
+-- what stands in the first: octets that follow make no difference
+pub part-ahead : (xs ys : List ℕ) (at width : ℕ) → at + width ≤ length xs + 1 → part (xs ++ ys) at width ≡ part xs at width
+unfolding part
+part-ahead xs ys at zero h = refl
+part-ahead xs ys at (suc width) h =
+    let here : octet (xs ++ ys) at ≡ octet xs at = List·getD-append (0 ∷ xs) ys 0 at (omega arith) in
+    λ i. here i ∷ part-ahead xs ys (suc at) width (omega arith) i
 
 -- past the end there are zeros
 pub part-past : (s : List ℕ) (at width : ℕ) → length s < at → part s at width ≡ replicate width 0
@@ -150,6 +158,17 @@ beAt-past s at (suc width) h =
 pub beAt-drop : (s : List ℕ) (k at width : ℕ) → 1 ≤ at → beAt (drop k s) at width ≡ beAt s (at + k) width
 unfolding beAt
 beAt-drop s k at width h = ap be (part-drop s k at width h)
+
+-- octets that stand before others
+pub beAt-ahead : (xs ys : List ℕ) (at width : ℕ) → at + width ≤ length xs + 1 → beAt (xs ++ ys) at width ≡ beAt xs at width
+unfolding beAt
+beAt-ahead xs ys at width h = ap be (part-ahead xs ys at width h)
+
+-- octets of the first n
+pub beAt-take : (s : List ℕ) (n at width : ℕ) → n ≤ length s → at + width ≤ n + 1 → beAt (take n s) at width ≡ beAt s at width
+beAt-take s n at width l h =
+    sym (beAt-ahead (take n s) (drop n s) at width (omega (arith, length-take-le n s l)))
+    ∙ ap (λ (r : List ℕ). beAt r at width) (take-append-drop n s)
 
 -- of two equal numbers the first octet of one is no more than that of the other
 first-no-more : (p a b x y : ℕ) → x < p → y < p → a * p + x ≡ b * p + y → a ≤ b

@@ -73,14 +73,7 @@ pub fn signed32(raw: u32) -> i32
     signed(raw, 0x8000_0000)
 }
 
-// The number by sign and magnitude in octet `at`.
-pub fn signed8_at(s: &[u8], at: usize) -> i32
-    ensures { λ r. ⌜ r ≡ signOf 1 (beAt (now (s .entry)) at 1) ⌝ }
-{
-    signed8(u8_at(s, at))
-}
-
-// The same in the two octets from octet `at` on.
+// The number by sign and magnitude in the two octets from octet `at` on.
 pub fn signed16_at(s: &[u8], at: usize) -> i32
     ensures { λ r. ⌜ r ≡ signOf 2 (beAt (now (s .entry)) at 2) ⌝ }
 {

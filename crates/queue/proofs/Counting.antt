@@ -6,23 +6,24 @@ use native.Mathlib.Omega.{arith}
 use mathlib.Core.Path.{_≡_, refl, sym, ap, _∙_}
 use mathlib.Core.List.{List, [], _∷_}
 use lib.ListN.{length, length-set}
+use Rattle.cutting.specs.Cuts.{cutOf}
 use Rattle.shelf.specs.declared.Shelf.{Shelf}
 use Rattle.filing.specs.Filing.{Filing, refusedFiling, accepted, filedBy}
 use Rattle.filing.specs.declared.Answer.{Answer}
 use Rattle.filing.specs.declared.Answer.the-variants.{Kept, Passed, Refused}
 use Rattle.filing.proofs.SaidOfTheSlots.{said}
-use Rattle.queue.specs.Queues.{Sent, recordFiling, recordFiled, cutOf, counted, total, oneMore, recordsFiled, fromStart, acceptedQueue, queueFiled}
+use Rattle.queue.specs.Queues.{Sent, recordFiling, recordFiled, recordStep, counted, sumOf, oneMore, recordsFiled, fromStart, acceptedQueue, queueFiled}
 use Rattle.queue.specs.Counting.{answersOf, countedAll, AllSaid, Reports}
 use Rattle.queue.specs.declared.Counts.{Counts}
 use Rattle.queue.specs.declared.Progress.{Progress}
 use Rattle.queue.proofs.FiledQueues.{files}
 
-pub one-more : (n : Counts) (a : Answer) → total (counted n a) ≡ total n + 1
+pub one-more : (n : Counts) (a : Answer) → sumOf (counted n a) ≡ sumOf n + 1
 one-more n Kept = omega arith
 one-more n Passed = omega arith
 one-more n (Refused x) = omega arith
 
-pub sum : (rs : List Sent) (p : Progress) → total (recordsFiled p rs .counts) ≡ total (p .counts) + length rs
+pub sum : (rs : List Sent) (p : Progress) → sumOf (recordsFiled p rs .counts) ≡ sumOf (p .counts) + length rs
 unfolding recordsFiled
 sum [] p = omega arith
 sum (r ∷ rs) p =
@@ -50,13 +51,13 @@ all-said (r ∷ rs) s long = (said s (r .slot) (recordFiling r) long, all-said r
 
 -- ---- so of a queue that is filed
 
-pub queue-counts : (q : List ℕ) (s : Shelf) (p : Progress) → queueFiled s q ≡ acceptedQueue p → Reports s (cutOf q .records) (p .counts)
+pub queue-counts : (q : List ℕ) (s : Shelf) (p : Progress) → queueFiled s q ≡ acceptedQueue p → Reports s (cutOf recordStep q .items) (p .counts)
 queue-counts q s p e =
-    let rs = cutOf q .records in
+    let rs = cutOf recordStep q .items in
     let f = files q s p e in
     let same = ap (λ (x : Progress). x .counts) (f .records) in
     record {
       counts = sym same ∙ counts-are rs (fromStart s);
       slots = all-said rs s;
-      sum = sym (ap total same) ∙ sum rs (fromStart s) ∙ zero-add (length rs);
+      sum = sym (ap sumOf same) ∙ sum rs (fromStart s) ∙ zero-add (length rs);
     }

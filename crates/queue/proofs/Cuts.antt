@@ -1,47 +1,59 @@
--- How a queue is cut, record by record: what stands behind the first record is cut as if it were a queue of its own.
+-- The records of a queue as items that it is cut into: where one stands, and that it is the same whatever stands behind it.
 -- Assumes nothing.
-use Prim.Native.Nat.{ℕ, zero, suc, _+_, _≤_}
+use Prim.Native.Nat.{ℕ, _+_, _-_, _≤_, _<_}
 use native.Mathlib.Omega.{arith}
-use mathlib.Core.Path.{_≡_, refl, ap, _∙_}
+use mathlib.Core.Path.{_≡_, refl, ap, sym, subst, _∙_}
 use mathlib.Core.Bool.{Bool, true, false, cond}
-use mathlib.Core.List.{List, [], _∷_}
+use mathlib.Core.List.{List, [], _∷_, _++_}
 use lib.Dec.{ltb}
-use lib.ListN.{length, drop, length-drop}
-use borrow.Author.Tests.{eq-eqb, ne-eqb, ltb-false}
-use Rattle.queue.specs.Numbers.{numberOf}
-use Rattle.queue.specs.Records.{onward, bodied, issueFrom, recordOf}
-use Rattle.queue.specs.Queues.{Cut, recordIn, ahead, atEnd, cutIn, cutOf}
-use Rattle.queue.specs.declared.Number.{Number}
-use Rattle.queue.specs.declared.Number.the-variants.{Found, Malformed}
+use lib.ListN.{length, take, drop, length-drop, length-append}
+use lib.Seq.{take-append-le, drop-append-le}
+use borrow.Author.Tests.{ltb-false, le-ltb}
+use Rattle.cutting.specs.Numbers.{leadingNumber}
+use Rattle.cutting.specs.Cuts.{item, cutOf}
+use Rattle.cutting.specs.declared.Number.the-variants.{Found}
+use Rattle.cutting.proofs.Taken.{taken, number-stands, number-ahead, number-after}
+use Rattle.cutting.proofs.Cuts.{Advances, by-cut}
+use Rattle.cutting.proofs.Strung.{LooksNoFurther}
+use Rattle.cutting.proofs.Walks.{WalksOn, restAt, walk-on, walk-stopped, walk-end}
+use Rattle.filing.specs.Filing.{issueFrom}
+use Rattle.queue.specs.Records.{recordOf}
+use Rattle.queue.specs.Queues.{Sent, recordIn, recordItem, recordStep}
 use Rattle.queue.specs.declared.Head.{Head}
 use Rattle.queue.specs.declared.Record.{Record}
 use Rattle.queue.specs.declared.Record.the-variants.{Whole, Broken}
-use Rattle.queue.proofs.Taken.{taken}
 
 -- ---- a record that is read
 
 -- its three numbers stand one behind the other, and then its body, which ends within the octets
-pub record PartInto (s : List ℕ) (h : Head) : Type 0 where
+pub record Stands (s : List ℕ) (h : Head) : Type 0 where
   pub stored : ℕ
   pub size : ℕ
   pub a : ℕ
   pub b : ℕ
   pub c : ℕ
-  pub first : numberOf s ≡ Found (h .slot) a
-  pub second : numberOf (drop a s) ≡ Found stored b
-  pub third : numberOf (drop (a + b) s) ≡ Found size c
+  pub first : leadingNumber s ≡ Found (h .slot) a
+  pub second : leadingNumber (drop a s) ≡ Found stored b
+  pub third : leadingNumber (drop (a + b) s) ≡ Found size c
   pub named : h .issue ≡ issueFrom stored
   pub starts : h .start ≡ a + b + c
   pub ends : h .end ≡ a + b + c + size
   pub inside : a + b + c + size ≤ length s
 
-pub stands : (s : List ℕ) (h : Head) → recordOf s ≡ Whole h → PartInto s h
+pub stands : (s : List ℕ) (h : Head) → recordOf s ≡ Whole h → Stands s h
 unfolding recordOf
-stands s h e = by-first (numberOf s) refl e
+stands s h e =
+    let x = number-stands (leadingNumber s) _ (Whole h) broken e in
+    let y = number-stands (leadingNumber (drop (x .1) s)) _ (Whole h) broken (x .3) in
+    let z = number-stands (leadingNumber (drop (x .1 + y .1) s)) _ (Whole h) broken (y .3) in
+    by-room (x .0) (x .1) (y .0) (y .1) (z .0) (z .1) (x .2) (y .2) (z .2) (ltb (length s) (x .1 + y .1 + z .1 + z .0)) refl (z .3)
   where
-    by-room : (slot a stored b size c : ℕ) → numberOf s ≡ Found slot a → numberOf (drop a s) ≡ Found stored b → numberOf (drop (a + b) s) ≡ Found size c
+    broken : Broken ≡ Whole h → ⊥
+    broken e = let z : _≡_ {A = ℕ} 0 1 = cc in omega arith
+
+    by-room : (slot a stored b size c : ℕ) → leadingNumber s ≡ Found slot a → leadingNumber (drop a s) ≡ Found stored b → leadingNumber (drop (a + b) s) ≡ Found size c
         → (t : Bool) → ltb (length s) (a + b + c + size) ≡ t
-        → cond t Broken (Whole (record { slot = slot; issue = issueFrom stored; start = a + b + c; end = a + b + c + size })) ≡ Whole h → PartInto s h
+        → cond t Broken (Whole (record { slot = slot; issue = issueFrom stored; start = a + b + c; end = a + b + c + size })) ≡ Whole h → Stands s h
     by-room slot a stored b size c f g k true t e = let z : _≡_ {A = ℕ} 0 1 = cc in absurd (omega arith)
     by-room slot a stored b size c f g k false t e =
         let same : slot ≡ h .slot = cc in
@@ -60,70 +72,82 @@ stands s h e = by-first (numberOf s) refl e
           inside = ltb-false (length s) (a + b + c + size) t;
         }
 
-    by-third : (slot a stored b : ℕ) → numberOf s ≡ Found slot a → numberOf (drop a s) ≡ Found stored b → (r : Number) → numberOf (drop (a + b) s) ≡ r
-        → onward r (λ size c. bodied s slot stored (a + b + c) size) ≡ Whole h → PartInto s h
-    by-third slot a stored b f g Malformed k e = let z : _≡_ {A = ℕ} 0 1 = cc in absurd (omega arith)
-    by-third slot a stored b f g (Found size c) k e = by-room slot a stored b size c f g k (ltb (length s) (a + b + c + size)) refl e
+-- ---- it is the same whatever stands behind it
 
-    by-second : (slot a : ℕ) → numberOf s ≡ Found slot a → (r : Number) → numberOf (drop a s) ≡ r
-        → onward r (λ stored b. onward (numberOf (drop (a + b) s)) (λ size c. bodied s slot stored (a + b + c) size)) ≡ Whole h → PartInto s h
-    by-second slot a f Malformed g e = let z : _≡_ {A = ℕ} 0 1 = cc in absurd (omega arith)
-    by-second slot a f (Found stored b) g e = by-third slot a stored b f g (numberOf (drop (a + b) s)) refl e
+pub record-ahead : (p q : List ℕ) (h : Head) → recordOf p ≡ Whole h → recordOf (p ++ q) ≡ Whole h
+unfolding recordOf
+record-ahead p q h e =
+    let r = stands p h e in
+    let first = taken _ _ _ (r .first) in
+    let room : ltb (length (p ++ q)) (r .a + r .b + r .c + r .size) ≡ false = le-ltb (length (p ++ q)) (r .a + r .b + r .c + r .size) (omega (arith, r .inside, length-append p q)) in
+    simp (
+      number-ahead p q _ _ (r .first),
+      number-after (r .a) p q _ _ (first .inside) (r .second),
+      number-after (r .a + r .b) p q _ _ (omega (arith, r .inside)) (r .third),
+      room,
+    )
+    (λ i. Whole (record { slot = h .slot; issue = sym (r .named) i; start = sym (r .starts) i; end = sym (r .ends) i }))
 
-    by-first : (r : Number) → numberOf s ≡ r
-        → onward r (λ slot a. onward (numberOf (drop a s)) (λ stored b. onward (numberOf (drop (a + b) s)) (λ size c. bodied s slot stored (a + b + c) size))) ≡ Whole h → PartInto s h
-    by-first Malformed f e = let z : _≡_ {A = ℕ} 0 1 = cc in absurd (omega arith)
-    by-first (Found slot a) f e = by-second slot a f (numberOf (drop a s)) refl e
+pub record-in : (p q : List ℕ) (h : Head) → recordOf p ≡ Whole h → recordIn (p ++ q) h ≡ recordIn p h
+record-in p q h e =
+    let r = stands p h e in
+    let start : h .start ≤ length p = omega (arith, r .starts, r .inside) in
+    let size : h .end - h .start ≤ length (drop (h .start) p) = omega (arith, r .starts, r .ends, r .inside, length-drop (h .start) p) in
+    ap (λ (s : List ℕ). record { slot = h .slot; issue = h .issue; body = s })
+    (ap (take (h .end - h .start)) (drop-append-le (h .start) p q start) ∙ take-append-le (h .end - h .start) (drop (h .start) p) q size)
 
--- so it has octets, and ends within them
-pub record Spans (s : List ℕ) (h : Head) : Type 0 where
-  pub some : 1 ≤ h .end
-  pub inside : h .end ≤ length s
+-- ---- so a queue is cut into records as octets are into items
 
-pub ends : (s : List ℕ) (h : Head) → recordOf s ≡ Whole h → Spans s h
-ends s h e =
-    let r = stands s h e in
+-- by what is found of a record
+by-record : (s : List ℕ) (x : Sent) (end : ℕ) → recordStep s ≡ item x end → (h : Head) × (recordOf s ≡ Whole h) × (item (recordIn s h) (h .end) ≡ item x end)
+unfolding recordStep
+by-record s x end e = by (recordOf s) refl e
+  where
+    by : (r : Record) → recordOf s ≡ r → recordItem s r ≡ item x end → (h : Head) × (recordOf s ≡ Whole h) × (item (recordIn s h) (h .end) ≡ item x end)
+    by Broken f e = let z : _≡_ {A = ℕ} 0 1 = cc in absurd (omega arith)
+    by (Whole h) f e = (h, f, e)
+
+pub records-advance : Advances recordStep
+records-advance s x end e =
+    let w = by-record s x end e in
+    let found = w .2 in
+    let same : w .0 .end ≡ end = cc in
+    let r = stands s (w .0) (w .1) in
     let least = taken _ _ _ (r .first) .some in
     record { some = omega (arith, least, r .ends); inside = omega (arith, r .ends, r .inside) }
 
--- ---- that at most so many records are looked at makes no difference, since there are no more records than octets
+pub records-look-no-further : LooksNoFurther recordStep
+unfolding recordStep
+records-look-no-further p q x end e =
+    let w = by-record p x end e in
+    ap (recordItem (p ++ q)) (record-ahead p q (w .0) (w .1)) ∙ ap (λ (r : Sent). item r (w .0 .end)) (record-in p q (w .0) (w .1)) ∙ w .2
 
-ahead-same : (s : List ℕ) (r : Record) (f g : List ℕ → Cut) → ((h : Head) → r ≡ Whole h → f (drop (h .end) s) ≡ g (drop (h .end) s)) → ahead s r f ≡ ahead s r g
-ahead-same s Broken f g same = refl
-ahead-same s (Whole h) f g same = ap (λ (c : Cut). record { records = recordIn s h ∷ c .records; whole = c .whole }) (same h refl)
+-- what holds of octets and no records, and of a record and those that follow it if it holds of these, holds of the records of a queue
+pub by-records : (P : List ℕ → List Sent → Type 0) → ((s : List ℕ) → P s []) → ((s : List ℕ) (h : Head) (rs : List Sent) → recordOf s ≡ Whole h → P (drop (h .end) s) rs → P s (recordIn s h ∷ rs))
+    → (q : List ℕ) → P q (cutOf recordStep q .items)
+by-records P nothing one-more =
+    by-cut recordStep records-advance P nothing
+    (λ s x end rs e p.
+    let w = by-record s x end e in
+    let found = w .2 in
+    let same : recordIn s (w .0) ≡ x = cc in
+    let ends : end ≡ w .0 .end = cc in
+    subst (λ (r : Sent). P s (r ∷ rs)) same (one-more s (w .0) rs (w .1) (subst (λ (k : ℕ). P (drop k s) rs) ends p)))
 
-same-cut : (m n : ℕ) (s : List ℕ) → length s ≤ m → length s ≤ n → cutIn m s ≡ cutIn n s
-unfolding cutIn
-same-cut zero zero s l k = refl
-same-cut zero (suc n) s l k = rw (eq-eqb (length s) 0 (omega arith))
-same-cut (suc m) zero s l k = rw (eq-eqb (length s) 0 (omega arith))
-same-cut (suc m) (suc n) s l k =
-    ap (λ (c : Cut). cond (atEnd s) (record { records = []; whole = true }) c)
-    (ahead-same s (recordOf s) (λ rest. cutIn m rest) (λ rest. cutIn n rest)
-    (λ h e. let i = ends s h e in same-cut m n (drop (h .end) s) (omega (arith, i .some, i .inside, length-drop (h .end) s)) (omega (arith, i .some, i .inside, length-drop (h .end) s))))
+-- ---- and a walk goes from record to record
 
--- ---- the first record, and the rest
+-- a record stands there
+abbrev pub RecordAt : List ℕ → ℕ → Head → Type 0
+RecordAt q at h = WalksOn recordStep q at (recordIn (restAt q at) h) (h .end)
 
-cut-some : (s : List ℕ) → 1 ≤ length s → cutOf s ≡ ahead s (recordOf s) cutOf
-unfolding cutOf cutIn
-cut-some s l = by-length (length s) refl
-  where
-    by-length : (n : ℕ) → length s ≡ n → cutIn (length s) s ≡ ahead s (recordOf s) cutOf
-    by-length zero e = absurd (omega arith)
-    by-length (suc n) e =
-        ap (λ (k : ℕ). cutIn k s) e
-        ∙ ap (λ (t : Bool). cond t (record { records = []; whole = true }) (ahead s (recordOf s) (λ rest. cutIn n rest))) (ne-eqb (length s) 0 (λ z. omega arith))
-        ∙ ahead-same s (recordOf s) (λ rest. cutIn n rest) cutOf
-        (λ h f. let i = ends s h f in same-cut n (length (drop (h .end) s)) (drop (h .end) s) (omega (arith, i .some, i .inside, length-drop (h .end) s)) (omega arith))
+pub record-at : (q : List ℕ) (at : ℕ) (h : Head) → at ≤ length q → recordOf (restAt q at) ≡ Whole h → RecordAt q at h
+unfolding recordStep
+record-at q at h l e = walk-on recordStep records-advance q at (recordIn (restAt q at) h) (h .end) l (ap (recordItem (restAt q at)) e)
 
-pub cut-record : (s : List ℕ) (h : Head) → recordOf s ≡ Whole h → cutOf s ≡ record { records = recordIn s h ∷ cutOf (drop (h .end) s) .records; whole = cutOf (drop (h .end) s) .whole }
-cut-record s h e =
-    let i = ends s h e in
-    cut-some s (omega (arith, i .some, i .inside)) ∙ ap (λ (r : Record). ahead s r cutOf) e
+-- none does, or the end
+pub no-record-at : (q : List ℕ) (at : ℕ) → at < length q → recordOf (restAt q at) ≡ Broken → cutOf recordStep (drop at q) ≡ record { items = []; whole = false }
+unfolding recordStep
+no-record-at q at l e = walk-stopped recordStep records-advance q at l (ap (recordItem (restAt q at)) e)
 
-pub cut-broken : (s : List ℕ) → 1 ≤ length s → recordOf s ≡ Broken → cutOf s ≡ record { records = []; whole = false }
-cut-broken s l e = cut-some s l ∙ ap (λ (r : Record). ahead s r cutOf) e
-
-pub cut-end : (s : List ℕ) → length s ≤ 0 → cutOf s ≡ record { records = []; whole = true }
-unfolding cutOf cutIn
-cut-end s l = let none : length s ≡ 0 = omega arith in ap (λ (k : ℕ). cutIn k s) none ∙ ap (λ (t : Bool). record { records = []; whole = t }) (eq-eqb (length s) 0 none)
+pub end-at : (q : List ℕ) (at : ℕ) → length q ≤ at → cutOf recordStep (drop at q) ≡ record { items = []; whole = true }
+end-at = walk-end recordStep records-advance

@@ -9,24 +9,25 @@ use mathlib.Core.List.{List, [], _∷_, _++_, List·Memᴰ, append-nil, append-a
 use mathlib.Core.Bool.{Bool, true, false, cond}
 use lib.Dec.{eqb, ltb}
 use borrow.Author.Tests.{ltb-false, ne-eqb}
+use Rattle.cutting.specs.Cuts.{cutOf}
 use Rattle.card.specs.declared.Card.{Card}
 use Rattle.shelf.specs.Shelves.{slotAt, joinShelf}
 use Rattle.shelf.specs.declared.Shelf.{Shelf}
 use Rattle.shelf.specs.History.{Keeps, Tidy}
 use Rattle.shelf.proofs.CardHistory.{CardHistory as Cards, start as noCards, put, join as joinCards, shelfOf as shelfOfCards, acceptedAt as acceptedCards, fileAll}
-use Rattle.shelf.proofs.Histories.{tidy as tidy-cards, kept-cards, same-shelf as same-cards}
+use Rattle.shelf.proofs.Histories.{tidy as tidy-cards, greatest-card as greatest-of-cards, any-order as any-order-of-cards}
 use Rattle.filing.specs.Filing.{Filing, refusedFiling, accepted, filingOf, filedBy, filedOf}
 use Rattle.filing.specs.declared.Issue.{Issue}
 use Rattle.queue.specs.Bodies.{bodyOf}
-use Rattle.queue.specs.Queues.{Sent, bodyFiling, recordFiling, fromStart, cutOf, queueRefusal, queueFiled}
+use Rattle.queue.specs.Queues.{Sent, bodyFiling, recordFiling, fromStart, recordStep, queueRefusal, queueFiled}
 use Rattle.queue.specs.declared.Body.{Body}
 use Rattle.queue.specs.declared.Body.the-variants.{Five, NotFive}
 use Rattle.queue.proofs.RecordsAsCards.{cardBefore, cardsIn, one-card, records-are-cards}
-use Rattle.queue.specs.History.{Field, History, start, file, queue, join, shelfOf, acceptedOf, acceptedIn, recordsOf, acceptedAt}
+use Rattle.queue.specs.History.{FiledField, History, start, file, queue, join, shelfOf, acceptedOf, acceptedIn, recordsOf, acceptedAt}
 
 -- ---- a history of fields and queues as one of cards
 
-abbrev filingOfField : ℕ → Field → Filing
+abbrev filingOfField : ℕ → FiledField → Filing
 filingOfField slot x = filingOf slot (x .issue) (x .s1) (x .s3) (x .s4) (x .s5) (x .s7)
 
 -- cards put one after the other
@@ -56,7 +57,7 @@ unfolding queueFiled cardsIn fileAll
 queue-shelf q s = by-refusal (eqb (queueRefusal q) 0) refl
   where
     by-refusal : (t : Bool) → eqb (queueRefusal q) 0 ≡ t → queueFiled s q .shelf ≡ fileAll (cardsIn (recordsOf q)) s
-    by-refusal true f = rw f (records-are-cards (cutOf q .records) (fromStart s))
+    by-refusal true f = rw f (records-are-cards (cutOf recordStep q .items) (fromStart s))
     by-refusal false f = rw f
 
 same-shelves : (h : History) → shelfOf h ≡ shelfOfCards (ofHistory h)
@@ -112,15 +113,15 @@ pub tidy : (h : History) → Tidy (shelfOf h)
 tidy h = rw (same-shelves h) (tidy-cards (ofHistory h))
 
 -- each slot holds the greatest card ever accepted for it, or is empty if none was
-pub kept : (h : History) (n : ℕ) → n < 64 → Keeps (acceptedAt n h) (slotAt (shelfOf h) n)
-kept h n l = rw (same-accepted n h, same-shelves h) (kept-cards (ofHistory h) n l)
+pub greatest-card : (h : History) (n : ℕ) → n < 64 → Keeps (acceptedAt n h) (slotAt (shelfOf h) n)
+greatest-card h n l = rw (same-accepted n h, same-shelves h) (greatest-of-cards (ofHistory h) n l)
 
 -- so filing and joining may be done in any order, in any grouping and with repeats
-pub same-shelf : (g h : History) → ((n : ℕ) → n < 64 → (c : Card) → List·Memᴰ c (acceptedAt n g) → List·Memᴰ c (acceptedAt n h))
+pub any-order : (g h : History) → ((n : ℕ) → n < 64 → (c : Card) → List·Memᴰ c (acceptedAt n g) → List·Memᴰ c (acceptedAt n h))
     → ((n : ℕ) → n < 64 → (c : Card) → List·Memᴰ c (acceptedAt n h) → List·Memᴰ c (acceptedAt n g)) → shelfOf g ≡ shelfOf h
-same-shelf g h there back =
+any-order g h there back =
     same-shelves g
-    ∙ same-cards (ofHistory g) (ofHistory h)
+    ∙ any-order-of-cards (ofHistory g) (ofHistory h)
     (λ n l c m. subst (List·Memᴰ c) (same-accepted n h) (there n l c (subst (List·Memᴰ c) (sym (same-accepted n g)) m)))
     (λ n l c m. subst (List·Memᴰ c) (same-accepted n g) (back n l c (subst (List·Memᴰ c) (sym (same-accepted n h)) m)))
     ∙ sym (same-shelves h)

@@ -1,13 +1,9 @@
-pub mod Numbers
-pub mod OneSpelling
-pub mod Taken
 pub mod Cuts
-pub mod Walks
 pub mod FiledQueues
 pub mod Counting
 pub mod RecordsAsCards
 pub mod Histories
-pub mod QueueIsJoin
+pub mod QueueIsJoining
 pub mod Concatenation
 pub mod StarredQueues
 pub mod Entries

@@ -2,11 +2,12 @@
 -- Assumes nothing.
 use mathlib.Core.Path.{refl}
 use Rattle.layout.specs.Examples.{AllAgree}
-use Rattle.queue.specs.Numbers.{groups, numberOf, spelled}
+use Rattle.cutting.specs.Numbers.{groups, leadingNumber, spelled}
+use Rattle.cutting.specs.Cuts.{cutIn, cutOf}
 use Rattle.queue.specs.Records.{recordOf}
-use Rattle.queue.specs.Queues.{cutIn, cutOf, queueRefusal}
+use Rattle.queue.specs.Queues.{recordStep, queueRefusal}
 use Rattle.queue.specs.Examples.{starredQueues}
 
 pub queues-agree : AllAgree starredQueues
-unfolding AllAgree groups numberOf spelled recordOf cutIn cutOf queueRefusal
+unfolding AllAgree groups leadingNumber spelled recordOf recordStep cutIn cutOf queueRefusal
 queues-agree = (refl, (refl, (refl, (refl, tt))))

@@ -1,18 +1,13 @@
 -- The body of a record: the five sections back to back, cut by their own length octets; not exactly five sections of 5 or more octets is 20.
 -- Assumes nothing.
-use Prim.Native.Nat.{ℕ, _+_}
+use Prim.Native.Nat.{ℕ}
 use mathlib.Core.List.{List}
 use mathlib.Core.Bool.{cond}
-use lib.Dec.{ltb, eqb}
+use lib.Dec.{eqb}
 use lib.ListN.{length}
-use Rattle.octets.specs.Octets.{beAt}
+use Rattle.cutting.specs.Sections.{endAfter}
 use Rattle.queue.specs.declared.Body.{Body}
 use Rattle.queue.specs.declared.Body.the-variants.{Five, NotFive}
-
--- after how many octets the section ends that starts after `start` octets, or 0: it has under 5 octets, or goes past the end
-unfoldable pub endAfter : List ℕ → ℕ → ℕ
-endAfter s start =
-    cond (ltb (beAt s (start + 1) 4) 5) 0 (cond (ltb (length s) (start + beAt s (start + 1) 4)) 0 (start + beAt s (start + 1) 4))
 
 -- the next section starts where this one ends, if it does
 abbrev pub further : ℕ → (ℕ → Body) → Body

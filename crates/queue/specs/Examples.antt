@@ -4,10 +4,10 @@
 use mathlib.Core.List.{List, [], _∷_, map}
 use lib.IntN.{ℤ, pos}
 use Rattle.layout.specs.Examples.{Example}
-use Rattle.queue.specs.Numbers.{numberOf, spelled}
+use Rattle.cutting.specs.Numbers.{leadingNumber, spelled}
 use Rattle.queue.specs.Queues.{queueRefusal}
-use Rattle.queue.specs.declared.Number.{Number}
-use Rattle.queue.specs.declared.Number.the-variants.{Found, Malformed}
+use Rattle.cutting.specs.declared.Number.{Number}
+use Rattle.cutting.specs.declared.Number.the-variants.{Found, Malformed}
 
 -- the number that is found, and in how many octets
 abbrev pub foundIn : Number → List ℤ
@@ -17,7 +17,7 @@ foundIn Malformed = []
 abbrev pub starredQueues : List Example
 starredQueues =
     record { made = map pos (spelled 5 300); stated = pos 0xac ∷ pos 0x02 ∷ [] }
-    ∷ record { made = foundIn (numberOf (0xac ∷ 0x02 ∷ [])); stated = pos 300 ∷ pos 2 ∷ [] }
-    ∷ record { made = foundIn (numberOf (0x80 ∷ 0x00 ∷ [])); stated = [] }
+    ∷ record { made = foundIn (leadingNumber (0xac ∷ 0x02 ∷ [])); stated = pos 300 ∷ pos 2 ∷ [] }
+    ∷ record { made = foundIn (leadingNumber (0x80 ∷ 0x00 ∷ [])); stated = [] }
     ∷ record { made = pos (queueRefusal (0x80 ∷ 0x00 ∷ 0x00 ∷ 0x00 ∷ [])) ∷ []; stated = pos 19 ∷ [] }
     ∷ []

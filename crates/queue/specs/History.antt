@@ -5,14 +5,15 @@ use mathlib.Core.List.{List, [], _∷_, _++_}
 use mathlib.Core.Bool.{cond}
 use lib.Dec.{eqb}
 use Rattle.card.specs.declared.Card.{Card}
+use Rattle.cutting.specs.Cuts.{cutOf}
 use Rattle.shelf.specs.Shelves.{emptyShelf, joinShelf}
 use Rattle.shelf.specs.declared.Shelf.{Shelf}
 use Rattle.filing.specs.Filing.{Filing, refusedFiling, accepted, filingOf, filedOf}
 use Rattle.filing.specs.declared.Issue.{Issue}
-use Rattle.queue.specs.Queues.{Sent, recordFiling, cutOf, queueRefusal, queueFiled}
+use Rattle.queue.specs.Queues.{Sent, recordFiling, recordStep, queueRefusal, queueFiled}
 
 -- a field that is filed: an issue and five sections
-pub record Field : Type 0 where
+pub record FiledField : Type 0 where
   pub issue : Issue
   pub s1 : List ℕ
   pub s3 : List ℕ
@@ -24,7 +25,7 @@ pub record Field : Type 0 where
 -- joined in
 pub data History : Type 0 where
   start : History
-  file : ℕ → Field → History → History
+  file : ℕ → FiledField → History → History
   queue : List ℕ → History → History
   join : History → History → History
 
@@ -46,7 +47,7 @@ acceptedIn n [] = []
 acceptedIn n (r ∷ rs) = acceptedOf n (r .slot) (recordFiling r) ++ acceptedIn n rs
 
 abbrev pub recordsOf : List ℕ → List Sent
-recordsOf q = cond (eqb (queueRefusal q) 0) (cutOf q .records) []
+recordsOf q = cond (eqb (queueRefusal q) 0) (cutOf recordStep q .items) []
 
 -- each card that was ever accepted for a slot, here or in a shelf joined in, directly or through others
 unfoldable pub acceptedAt : ℕ → History → List Card

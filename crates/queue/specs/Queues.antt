@@ -1,12 +1,14 @@
 -- Filing a queue: 2, then 19 over the whole file, and then nothing is filed; then record by record 20, then filing, and a refused record
 -- doesn't stop the next.
 -- Assumes nothing.
-use Prim.Native.Nat.{ℕ, zero, suc, _+_, _-_}
+use Prim.Native.Nat.{ℕ, _+_}
 use mathlib.Core.List.{List, [], _∷_}
-use mathlib.Core.Bool.{Bool, true, false, cond}
+use mathlib.Core.Bool.{cond}
 use lib.Dec.{ltb, eqb}
-use lib.ListN.{length, take, drop}
+use lib.ListN.{length}
 use Rattle.layout.specs.Outcomes.{refusal}
+use Rattle.cutting.specs.Cuts.{Step, noItem, item, cutOf}
+use Rattle.cutting.specs.Sections.{stretch}
 use Rattle.shelf.specs.declared.Shelf.{Shelf}
 use Rattle.filing.specs.Filing.{Filing, refusedFiling, filingOf, filedBy}
 use Rattle.filing.specs.declared.Issue.{Issue}
@@ -33,12 +35,8 @@ pub record Sent : Type 0 where
   pub issue : Issue
   pub body : List ℕ
 
--- the octets from index `start` up to index `end`
-abbrev pub between : List ℕ → ℕ → ℕ → List ℕ
-between s start end = take (end - start) (drop start s)
-
 abbrev pub recordIn : List ℕ → Head → Sent
-recordIn s h = record { slot = h .slot; issue = h .issue; body = between s (h .start) (h .end) }
+recordIn s h = record { slot = h .slot; issue = h .issue; body = stretch s (h .start) (h .end) }
 
 -- the five sections of a body are filed, or the body is not five sections: 20
 unfoldable pub bodyFiling : ℕ → Issue → List ℕ → Body → Filing
@@ -47,11 +45,11 @@ bodyFiling slot issue s (Five e) =
     filingOf
     slot
     issue
-    (between s 0 (e .one))
-    (between s (e .one) (e .three))
-    (between s (e .three) (e .four))
-    (between s (e .four) (e .five))
-    (between s (e .five) (length s))
+    (stretch s 0 (e .one))
+    (stretch s (e .one) (e .three))
+    (stretch s (e .three) (e .four))
+    (stretch s (e .four) (e .five))
+    (stretch s (e .five) (length s))
 
 unfoldable pub recordFiling : Sent → Filing
 recordFiling r = bodyFiling (r .slot) (r .issue) (r .body) (bodyOf (r .body))
@@ -61,28 +59,13 @@ recordFiled shelf r = filedBy shelf (r .slot) (recordFiling r)
 
 -- ---- the records of a queue
 
--- the records from the start, and whether they are the whole queue
-pub record Cut : Type 0 where
-  pub records : List Sent
-  pub whole : Bool
+-- what the record at the start of these octets says, and how many octets it takes, or that none stands there
+abbrev pub recordItem : List ℕ → Record → Step Sent
+recordItem s Broken = noItem
+recordItem s (Whole h) = item (recordIn s h) (h .end)
 
--- a record that stands before others, or none: nothing behind it is looked at
-abbrev pub ahead : List ℕ → Record → (List ℕ → Cut) → Cut
-ahead s Broken next = record { records = []; whole = false }
-ahead s (Whole h) next = record { records = recordIn s h ∷ next (drop (h .end) s) .records; whole = next (drop (h .end) s) .whole }
-
--- no octet is left
-abbrev pub atEnd : List ℕ → Bool
-atEnd s = eqb (length s) 0
-
--- at most so many records
-unfoldable pub cutIn : ℕ → List ℕ → Cut
-cutIn zero s = record { records = []; whole = atEnd s }
-cutIn (suc most) s = cond (atEnd s) (record { records = []; whole = true }) (ahead s (recordOf s) (λ rest. cutIn most rest))
-
--- a queue has no more records than octets
-unfoldable pub cutOf : List ℕ → Cut
-cutOf s = cutIn (length s) s
+unfoldable pub recordStep : List ℕ → Step Sent
+recordStep s = recordItem s (recordOf s)
 
 -- ---- filing them
 
@@ -96,8 +79,8 @@ counted n Passed = record { kept = n .kept; passed = n .passed + 1; refused = n 
 counted n (refusedRecord x) = record { kept = n .kept; passed = n .passed; refused = n .refused + 1 }
 
 -- the three together
-abbrev pub total : Counts → ℕ
-total n = n .kept + n .passed + n .refused
+abbrev pub sumOf : Counts → ℕ
+sumOf n = n .kept + n .passed + n .refused
 
 abbrev pub oneMore : Counts → Filed → Progress
 oneMore n x = record { shelf = x .shelf; counts = counted n (x .answer) }
@@ -111,7 +94,7 @@ recordsFiled p (r ∷ rs) = recordsFiled (oneMore (p .counts) (recordFiled (p .s
 
 -- the number with which it is refused, or 0
 unfoldable pub queueRefusal : List ℕ → ℕ
-queueRefusal q = cond (ltb 65536 (length q)) 2 (cond (cutOf q .whole) 0 19)
+queueRefusal q = cond (ltb 65536 (length q)) 2 (cond (cutOf recordStep q .whole) 0 19)
 
 abbrev pub refusedQueue : Shelf → ℕ → QueueFiled
 refusedQueue shelf number = record { shelf = shelf; answer = refusedAll (refusal number 0 0) }
@@ -122,5 +105,5 @@ acceptedQueue p = record { shelf = p .shelf; answer = filedAll (p .counts) }
 unfoldable pub queueFiled : Shelf → List ℕ → QueueFiled
 queueFiled shelf q =
     cond (eqb (queueRefusal q) 0)
-    (acceptedQueue (recordsFiled (fromStart shelf) (cutOf q .records)))
+    (acceptedQueue (recordsFiled (fromStart shelf) (cutOf recordStep q .items)))
     (refusedQueue shelf (queueRefusal q))

@@ -1,69 +1,17 @@
 // Queues: how one is cut into records and their bodies into sections, and filing one, record by record.
 ghost use mathlib.Core.Path.{_≡_};
-ghost use Prim.Native.Nat.{_^_, _<_, _≤_};
-ghost use Rattle.queue.specs.Numbers.{groups, numberOf};
-ghost use Rattle.queue.specs.Records.{recordOf, issueFrom};
-ghost use Rattle.queue.specs.Bodies.{endAfter, bodyOf};
-ghost use Rattle.queue.specs.Queues.{between, recordIn, recordFiled, cutOf, total, oneMore, recordsFiled, fromStart, queueRefusal, queueFiled};
+ghost use Prim.Native.Nat.{_^_, _<_};
+ghost use Rattle.cutting.specs.Cuts.{cutOf};
+ghost use Rattle.queue.specs.Records.{recordOf};
+ghost use Rattle.queue.specs.Bodies.{bodyOf};
+ghost use Rattle.queue.specs.Queues.{recordIn, recordFiled, recordStep, sumOf, oneMore, recordsFiled, fromStart, queueRefusal, queueFiled};
+use cutting::Number;
 use filing::Answer;
 use filing::Filed;
 use filing::Issue;
+use filing::StoredIssue;
 use layout::Refusal;
 use shelf::Shelf;
-
-// A number and how many octets it takes, or that none stands there.
-pub enum Number {
-    Found(u64, usize),
-    Malformed,
-}
-
-// The number at the start of these octets.
-pub fn number_of(octets: &[u8]) -> Number
-    ensures { λ r. ⌜ r ≡ numberOf (now (octets .entry)) ⌝ }
-{
-    let found = groups_of(octets);
-    match found {
-        Number::Found(n, count) => {
-            if 4294967296 < n {
-                return Number::Malformed;
-            }
-            Number::Found(n, count)
-        }
-        Number::Malformed => Number::Malformed,
-    }
-}
-
-// At most five groups. The first may be 0; a later last one that is 0 would be a longer form.
-fn groups_of(octets: &[u8]) -> Number
-    ensures { λ r. ⌜ r ≡ groups 5 (now (octets .entry)) ⌝ }
-{
-    if octets.len() == 0 {
-        return Number::Malformed;
-    }
-    let first = octets[0];
-    if first < 128 {
-        return Number::Found(first as u64, 1);
-    }
-    let mut value = first as u64 - 128;
-    let mut scale: u64 = 128;
-    let mut i: usize = 1;
-    while i < 5 {
-        if octets.len() <= i {
-            return Number::Malformed;
-        }
-        let group = octets[i] as u64;
-        if group < 128 {
-            if group == 0 {
-                return Number::Malformed;
-            }
-            return Number::Found(value + scale * group, i + 1);
-        }
-        value = value + scale * (group - 128);
-        scale = scale * 128;
-        i += 1;
-    }
-    Number::Malformed
-}
 
 // The slot and the issue that the queue has, and where the body stands: from index `start` up to index `end`.
 pub struct Head {
@@ -82,13 +30,13 @@ pub enum Record {
 pub fn record_of(octets: &[u8]) -> Record
     ensures { λ r. ⌜ r ≡ recordOf (now (octets .entry)) ⌝ }
 {
-    let Number::Found(slot, a) = number_of(octets) else {
+    let Number::Found(slot, a) = cutting::leading_number(octets) else {
         return Record::Broken;
     };
-    let Number::Found(stored, b) = number_of(&octets[a..]) else {
+    let Number::Found(stored, b) = cutting::leading_number(&octets[a..]) else {
         return Record::Broken;
     };
-    let Number::Found(size, c) = number_of(&octets[a + b..]) else {
+    let Number::Found(size, c) = cutting::leading_number(&octets[a + b..]) else {
         return Record::Broken;
     };
     let start = a + b + c;
@@ -96,24 +44,15 @@ pub fn record_of(octets: &[u8]) -> Record
     if octets.len() < end {
         return Record::Broken;
     }
-    let issue = issue_from(stored);
+    let StoredIssue::Is(issue) = filing::issue_from(stored) else {
+        return Record::Broken;
+    };
     Record::Whole(Head {
         slot,
         issue,
         start,
         end,
     })
-}
-
-// A queue has the issue + 1, and 0 where none is named.
-fn issue_from(stored: u64) -> Issue
-    requires { ⌜ stored ≤ 4294967296 ⌝ }
-    ensures { λ r. ⌜ r ≡ issueFrom stored ⌝ }
-{
-    if stored == 0 {
-        return Issue::NotNamed;
-    }
-    Issue::Named((stored - 1) as u32)
 }
 
 // Where sections 1, 3, 4 and 5 of a body end: the index after each one's last octet, at which the next one starts.
@@ -133,23 +72,23 @@ pub enum Body {
 pub fn body_of(octets: &[u8]) -> Body
     ensures { λ r. ⌜ r ≡ bodyOf (now (octets .entry)) ⌝ }
 {
-    let one = end_after(octets, 0);
+    let one = cutting::end_after(octets, 0);
     if one == 0 {
         return Body::NotFive;
     }
-    let three = end_after(octets, one);
+    let three = cutting::end_after(octets, one);
     if three == 0 {
         return Body::NotFive;
     }
-    let four = end_after(octets, three);
+    let four = cutting::end_after(octets, three);
     if four == 0 {
         return Body::NotFive;
     }
-    let five = end_after(octets, four);
+    let five = cutting::end_after(octets, four);
     if five == 0 {
         return Body::NotFive;
     }
-    let seven = end_after(octets, five);
+    let seven = cutting::end_after(octets, five);
     if seven == 0 {
         return Body::NotFive;
     }
@@ -164,40 +103,12 @@ pub fn body_of(octets: &[u8]) -> Body
     })
 }
 
-// The index after the section that starts at index `start`, or 0 if there is none of 5 or more octets within the body.
-fn end_after(octets: &[u8], start: usize) -> usize
-    ensures { λ r. ⌜ r ≡ endAfter (now (octets .entry)) start ⌝ }
-{
-    if octets.len() < start {
-        return 0;
-    }
-    let size = octets::u32_at(octets, start + 1);
-    if size < 5 {
-        return 0;
-    }
-    let end = start + size as usize;
-    if octets.len() < end {
-        return 0;
-    }
-    end
-}
-
-// The octets from index `start` up to index `end`, as far as they are there.
-fn between(octets: &[u8], start: usize, end: usize) -> &[u8]
-    ensures { λ r. ⌜ now r ≡ between (now (octets .entry)) start end ⌝ }
-{
-    if end < start {
-        return octets::part_after(octets, start, 0);
-    }
-    octets::part_after(octets, start, end - start)
-}
-
 // Files the record whose head this is and which stands at the start of these octets: 20, or as its five sections are filed. They are
 // parts of what is lent, and only the card's octets are copied.
 pub fn file_record(shelf: Shelf, octets: &[u8], head: Head) -> Filed
     ensures { λ r. ⌜ r ≡ recordFiled shelf (recordIn (now (octets .entry)) head) ⌝ }
 {
-    let body = between(octets, head.start, head.end);
+    let body = cutting::stretch(octets, head.start, head.end);
     let cut = body_of(body);
     let Body::Five(ends) = cut else {
         return Filed {
@@ -210,11 +121,11 @@ pub fn file_record(shelf: Shelf, octets: &[u8], head: Head) -> Filed
         };
     };
     let issue = head.issue;
-    let section1 = between(body, 0, ends.one);
-    let section3 = between(body, ends.one, ends.three);
-    let section4 = between(body, ends.three, ends.four);
-    let section5 = between(body, ends.four, ends.five);
-    let section7 = between(body, ends.five, body.len());
+    let section1 = cutting::stretch(body, 0, ends.one);
+    let section3 = cutting::stretch(body, ends.one, ends.three);
+    let section4 = cutting::stretch(body, ends.three, ends.four);
+    let section5 = cutting::stretch(body, ends.four, ends.five);
+    let section7 = cutting::stretch(body, ends.five, body.len());
     let slot = head.slot as usize;
     filing::file_by_value(
         shelf,
@@ -256,7 +167,7 @@ pub struct QueueFiled {
 pub fn file(shelf: Shelf, queue: &[u8]) -> QueueFiled
     ensures { λ r. ⌜ r ≡ queueFiled shelf (now (queue .entry)) ⌝ }
 {
-    let number = refusal_of(queue);
+    let number = refusal_number(queue);
     if number != 0 {
         return QueueFiled {
             shelf,
@@ -277,7 +188,7 @@ pub fn file(shelf: Shelf, queue: &[u8]) -> QueueFiled
 }
 
 // The number with which a whole queue is refused, before anything of it is filed, and 0 if it is not.
-pub fn refusal_of(queue: &[u8]) -> u8
+pub fn refusal_number(queue: &[u8]) -> u8
     ensures { λ r. ⌜ r ≡ queueRefusal (now (queue .entry)) ⌝ }
 {
     if 65536 < queue.len() {
@@ -288,7 +199,7 @@ pub fn refusal_of(queue: &[u8]) -> u8
 
 // One record more: it counts once, as it is answered.
 fn file_next(progress: Progress, octets: &[u8], head: Head) -> Progress
-    requires { ⌜ total (progress .counts) < 2 ^ 63 ⌝ }
+    requires { ⌜ sumOf (progress .counts) < 2 ^ 63 ⌝ }
     ensures { λ r. ⌜ r ≡ oneMore (progress .counts) (recordFiled (progress .shelf) (recordIn (now (octets .entry)) head)) ⌝ }
 {
     let filed = file_record(progress.shelf, octets, head);
@@ -305,7 +216,7 @@ fn file_next(progress: Progress, octets: &[u8], head: Head) -> Progress
 
 // Whether the queue is whole records to its end.
 fn well_cut(queue: &[u8]) -> bool
-    ensures { λ r. ⌜ r ≡ cutOf (now (queue .entry)) .whole ⌝ }
+    ensures { λ r. ⌜ r ≡ cutOf recordStep (now (queue .entry)) .whole ⌝ }
 {
     let mut i: usize = 0;
     while i < queue.len() {
@@ -319,7 +230,7 @@ fn well_cut(queue: &[u8]) -> bool
 
 // Files the records of a queue one after the other, up to its end or to where no record stands.
 fn file_records(shelf: Shelf, queue: &[u8]) -> Progress
-    ensures { λ r. ⌜ r ≡ recordsFiled (fromStart shelf) (cutOf (now (queue .entry)) .records) ⌝ }
+    ensures { λ r. ⌜ r ≡ recordsFiled (fromStart shelf) (cutOf recordStep (now (queue .entry)) .items) ⌝ }
 {
     let mut progress = Progress {
         shelf,

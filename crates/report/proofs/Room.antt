@@ -2,7 +2,7 @@
 -- Assumes nothing.
 use mathlib.Core.Path.{_≡_, refl}
 use mathlib.Core.Bool.{Bool, true, false, cond}
-use mathlib.Core.List.{List, []}
+use mathlib.Core.List.{List, [], _∷_}
 use Prim.Native.Nat.{ℕ, zero, suc, _+_, _*_, _-_, _^_, _≤_, _<_}
 use native.Mathlib.Omega.{arith}
 use lib.Dec.{eqb}
@@ -10,22 +10,24 @@ use lib.ListN.{length, drop, length-append, length-drop}
 use Rattle.lent.specs.Rows.{inTurn}
 use Rattle.layout.specs.declared.Refusal.{Refusal}
 use Rattle.card.specs.declared.Card.{Card}
+use Rattle.cutting.specs.Cuts.{cutOf}
+use Rattle.cutting.proofs.Taken.{taken}
 use Rattle.shelf.specs.Shelves.{emptyShelf, slotAt}
 use Rattle.shelf.specs.declared.Slot.{Slot}
 use Rattle.shelf.specs.declared.Shelf.{Shelf}
+use Rattle.filing.specs.Filing.{issueFrom}
 use Rattle.filing.specs.declared.Issue.{Issue}
 use Rattle.filing.specs.declared.Issue.the-variants.{NotNamed, Named}
 use Rattle.filing.specs.declared.Answer.{Answer}
 use Rattle.filing.specs.declared.Answer.the-variants.{Kept, Passed, Refused}
-use Rattle.queue.specs.Records.{issueFrom, recordOf}
-use Rattle.queue.specs.Queues.{recordIn, recordFiled, ahead, atEnd, cutIn, cutOf, queueFiled}
+use Rattle.queue.specs.Records.{recordOf}
+use Rattle.queue.specs.Queues.{Sent, recordIn, recordFiled, recordStep, queueFiled}
 use Rattle.queue.specs.declared.Counts.{Counts}
-use Rattle.queue.specs.declared.Record.{Record}
-use Rattle.queue.specs.declared.Record.the-variants.{Whole, Broken}
+use Rattle.queue.specs.declared.Head.{Head}
+use Rattle.queue.specs.declared.Record.the-variants.{Whole}
 use Rattle.queue.specs.declared.QueueAnswer.{QueueAnswer}
 use Rattle.queue.specs.declared.QueueAnswer.the-variants.{Filed as filedAll, Refused as refusedAll}
-use Rattle.queue.proofs.Taken.{taken}
-use Rattle.queue.proofs.Cuts.{stands}
+use Rattle.queue.proofs.Cuts.{stands, by-records}
 use Rattle.queue.proofs.FiledQueues.{files}
 use Rattle.lent.specs.Written.{written, append, startsWith}
 use Rattle.lent.proofs.Written.{append-whole}
@@ -91,44 +93,38 @@ unfolding recordLine
 record-line k slot issue a few-k few-slot few-issue =
     simp length-append (omega (arith, decimal-short 5 k (omega arith) few-k, decimal-short 10 slot (omega arith) (omega arith), fate-text a))
 
--- what the lines of at most so many records have at most
-abbrev Bounded : ℕ → Type 0
-Bounded most = (k : ℕ) (shelf : Shelf) (s : List ℕ) → k + length s < 10 ^ 5 → length (recordLines k shelf (cutIn most s .records)) ≤ 33 * length s
-
 -- a record has three numbers, each of at least one octet, and its line at most 99 octets: 33 for each octet of the record
-record-lines : (most : ℕ) → Bounded most
-unfolding cutIn recordLines
-record-lines zero k shelf s room = omega arith
-record-lines (suc most) k shelf s room = by-end (record-lines most) (atEnd s)
-  where
-    by-record : Bounded most → (r : Record) → recordOf s ≡ r → length (recordLines k shelf (ahead s r (λ rest. cutIn most rest) .records)) ≤ 33 * length s
-    by-record others Broken e = omega arith
-    by-record others (Whole h) e =
-        let r = stands s h e in
-        let x = taken _ _ _ (r .first) in
-        let y = taken _ _ _ (r .second) in
-        let z = taken _ _ _ (r .third) in
-        let filed = recordFiled shelf (recordIn s h) in
-        let line = record-line k (h .slot) (h .issue) (filed .answer) (omega arith) (x .small) (rw (r .named) (issue-text (r .stored) (y .small))) in
-        let rest = others (k + 1) (filed .shelf) (drop (h .end) s) (simp length-drop (omega arith)) in
-        simp length-append (omega (arith, line, rest, length-drop (h .end) s))
+abbrev Bounded : List ℕ → List Sent → Type 0
+Bounded s rs = (k : ℕ) (shelf : Shelf) → k + length s < 10 ^ 5 → length (recordLines k shelf rs) ≤ 33 * length s
 
-    by-end : Bounded most → (b : Bool) → length (recordLines k shelf (cond b (record { records = []; whole = true }) (ahead s (recordOf s) (λ rest. cutIn most rest)) .records)) ≤ 33 * length s
-    by-end others true = omega arith
-    by-end others false = by-record others (recordOf s) refl
+one-more : (s : List ℕ) (h : Head) (rs : List Sent) → recordOf s ≡ Whole h → Bounded (drop (h .end) s) rs → Bounded s (recordIn s h ∷ rs)
+unfolding recordLines
+one-more s h rs e others k shelf room =
+    let r = stands s h e in
+    let x = taken _ _ _ (r .first) in
+    let y = taken _ _ _ (r .second) in
+    let z = taken _ _ _ (r .third) in
+    let filed = recordFiled shelf (recordIn s h) in
+    let line = record-line k (h .slot) (h .issue) (filed .answer) (omega arith) (x .small) (rw (r .named) (issue-text (r .stored) (y .small))) in
+    let rest = others (k + 1) (filed .shelf) (simp length-drop (omega arith)) in
+    simp length-append (omega (arith, line, rest, length-drop (h .end) s))
+
+record-lines : (s : List ℕ) → Bounded s (cutOf recordStep s .items)
+unfolding recordLines
+record-lines = by-records Bounded (λ s k shelf room. omega arith) one-more
 
 -- a queue that is not refused has at most 65,536 octets
 accepted-short : (s : Shelf) (q : List ℕ) (n : Counts) → queueFiled s q .answer ≡ filedAll n → length q ≤ 65536
 accepted-short s q n e = files q s (record { shelf = queueFiled s q .shelf; counts = n }) (λ i. record { shelf = queueFiled s q .shelf; answer = e i }) .short
 
 pub explanation-fits : (q : List ℕ) → length (explanation q) ≤ 2163200
-unfolding explanation explanationOf filedExplanation cutOf
+unfolding explanation explanationOf filedExplanation
 explanation-fits q = by-answer (queueFiled emptyShelf q .answer) refl
   where
-    by-answer : (a : QueueAnswer) → queueFiled emptyShelf q .answer ≡ a → length (explanationOf (cutOf q .records) a) ≤ 2163200
+    by-answer : (a : QueueAnswer) → queueFiled emptyShelf q .answer ≡ a → length (explanationOf (cutOf recordStep q .items) a) ≤ 2163200
     by-answer (filedAll n) e =
         let short = accepted-short emptyShelf q n e in
-        simp length-append (omega (arith, record-lines (length q) 1 emptyShelf q (omega arith), counts-line n))
+        simp length-append (omega (arith, record-lines q 1 emptyShelf (omega arith), counts-line n))
     by-answer (refusedAll x) e = omega (arith, refused-line x)
 
 -- ---- so what is left at the start of the buffer is the whole text

@@ -15,7 +15,8 @@ use Rattle.filing.specs.declared.Issue.{Issue}
 use Rattle.filing.specs.declared.Issue.the-variants.{NotNamed, Named}
 use Rattle.filing.specs.declared.Answer.{Answer}
 use Rattle.filing.specs.declared.Answer.the-variants.{Kept, Passed, Refused}
-use Rattle.queue.specs.Queues.{Sent, recordFiled, cutOf, queueFiled}
+use Rattle.cutting.specs.Cuts.{cutOf}
+use Rattle.queue.specs.Queues.{Sent, recordFiled, recordStep, queueFiled}
 use Rattle.queue.specs.declared.Counts.{Counts}
 use Rattle.queue.specs.declared.QueueAnswer.{QueueAnswer}
 use Rattle.queue.specs.declared.QueueAnswer.the-variants.{Filed as filedAll, Refused as refusedAll}
@@ -104,4 +105,4 @@ unfoldable pub listing : List ℕ → List ℕ
 listing q = listingOf (queueFiled emptyShelf q .shelf) (queueFiled emptyShelf q .answer)
 
 unfoldable pub explanation : List ℕ → List ℕ
-explanation q = explanationOf (cutOf q .records) (queueFiled emptyShelf q .answer)
+explanation q = explanationOf (cutOf recordStep q .items) (queueFiled emptyShelf q .answer)

@@ -3,7 +3,8 @@
 ghost use mathlib.Core.Path.{_≡_};
 ghost use lib.ListN.{length, replicate};
 ghost use Rattle.octets.specs.Octets.{beAt};
-ghost use Rattle.queue.specs.Queues.{cutOf};
+ghost use Rattle.cutting.specs.Cuts.{cutOf};
+ghost use Rattle.queue.specs.Queues.{recordStep};
 ghost use Rattle.shelf.specs.Shelves.{emptyShelf};
 ghost use Rattle.lent.specs.Written.{written, append, startsWith};
 ghost use Rattle.report.specs.Texts.{countsLine, refusedLine, timeText, cardLine, slotLine, slotLines, filedListing, listingOf, issueText, refusedFate, fate, recordLine, recordLines, filedExplanation, explanationOf, listing, explanation};
@@ -161,7 +162,7 @@ pub fn explanation(queue: &[u8], out: &mut [u8]) -> usize
 }
 
 fn explain(out: &mut [u8], queue: &[u8], answer: QueueAnswer) -> usize
-    ensures { λ r. ⌜ written (now (out .exit)) r ≡ append (written (now (out .entry)) 0) (explanationOf (cutOf (now (queue .entry)) .records) answer) ⌝ }
+    ensures { λ r. ⌜ written (now (out .exit)) r ≡ append (written (now (out .entry)) 0) (explanationOf (cutOf recordStep (now (queue .entry)) .items) answer) ⌝ }
 {
     match answer {
         QueueAnswer::Filed(counts) => explain_filed(out, queue, counts),
@@ -170,7 +171,7 @@ fn explain(out: &mut [u8], queue: &[u8], answer: QueueAnswer) -> usize
 }
 
 fn explain_filed(out: &mut [u8], queue: &[u8], counts: Counts) -> usize
-    ensures { λ r. ⌜ written (now (out .exit)) r ≡ append (written (now (out .entry)) 0) (filedExplanation (cutOf (now (queue .entry)) .records) counts) ⌝ }
+    ensures { λ r. ⌜ written (now (out .exit)) r ≡ append (written (now (out .entry)) 0) (filedExplanation (cutOf recordStep (now (queue .entry)) .items) counts) ⌝ }
 {
     let heading = lent::octets(out, 0, b"record slot issue fate\n");
     let records = record_lines(out, heading, queue);
@@ -178,7 +179,7 @@ fn explain_filed(out: &mut [u8], queue: &[u8], counts: Counts) -> usize
 }
 
 fn record_lines(out: &mut [u8], at: usize, queue: &[u8]) -> usize
-    ensures { λ r. ⌜ written (now (out .exit)) r ≡ append (written (now (out .entry)) at) (recordLines 1 emptyShelf (cutOf (now (queue .entry)) .records)) ⌝ }
+    ensures { λ r. ⌜ written (now (out .exit)) r ≡ append (written (now (out .entry)) at) (recordLines 1 emptyShelf (cutOf recordStep (now (queue .entry)) .items)) ⌝ }
 {
     let mut next = at;
     let mut shelf = Shelf::empty();

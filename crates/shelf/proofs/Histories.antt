@@ -64,17 +64,17 @@ keeps-both {l} {m} (greatest c i b) (greatest d j e) =
     (λ x k. ⊎-elim (λ z. above-left c d x (b x z)) (λ z. above-right c d x (e x z)) (List·Memᴰ·append-cases l k)))
 
 -- Each slot holds the greatest card that was ever accepted for it, or is empty if none was.
-pub kept-cards : (h : CardHistory) (n : ℕ) → n < 64 → Keeps (acceptedAt n h) (slotAt (shelfOf h) n)
+pub greatest-card : (h : CardHistory) (n : ℕ) → n < 64 → Keeps (acceptedAt n h) (slotAt (shelfOf h) n)
 unfolding shelfOf acceptedAt
-kept-cards start n l = subst⁻¹ (Keeps []) (getD-replicate 64 n blank blank l) (nothing refl)
-kept-cards (put m c h) n l = go (eqb m n) refl (kept-cards h n l)
+greatest-card start n l = subst⁻¹ (Keeps []) (getD-replicate 64 n blank blank l) (nothing refl)
+greatest-card (put m c h) n l = go (eqb m n) refl (greatest-card h n l)
   where
     go : (t : Bool) → eqb m n ≡ t → Keeps (acceptedAt n h) (slotAt (shelfOf h) n) → Keeps (acceptedAt n h ++ cond (eqb m n) (c ∷ []) []) (slotAt (putShelf (shelfOf h) m c) n)
     go true e k =
         let same : m ≡ n = eqb-true m n e in
         rw (e, same, put-same (shelfOf h) n c (tidy h .long) l) (keeps-both k (keeps-one c))
     go false e k = rw (e, append-nil (acceptedAt n h), put-other (shelfOf h) m n c (λ d. eqb-false m n e (sym d))) k
-kept-cards (join g h) n l = rw (join-at (shelfOf g) (shelfOf h) n (tidy g) (tidy h) l) (keeps-both (kept-cards g n l) (kept-cards h n l))
+greatest-card (join g h) n l = rw (join-at (shelfOf g) (shelfOf h) n (tidy g) (tidy h) l) (keeps-both (greatest-card g n l) (greatest-card h n l))
 
 -- what a slot keeps is settled by which cards there are, whatever their order and however often
 keeps-same : {l m : List Card} {s t : Slot} → ((c : Card) → List·Memᴰ c l → List·Memᴰ c m) → ((c : Card) → List·Memᴰ c m → List·Memᴰ c l) → Keeps l s → Keeps m t → s ≡ t
@@ -84,9 +84,9 @@ keeps-same f g (greatest c i b) (nothing e) = absurd (List·Memᴰ·not-nil (sub
 keeps-same f g (greatest c i b) (greatest d j e) = ap holding (card-strict .total c d (b d (g d j)) (e c (f c i)))
 
 -- So filing and joining may be done in any order, in any grouping and with repeats.
-pub same-shelf : (g h : CardHistory) → ((n : ℕ) → n < 64 → (c : Card) → List·Memᴰ c (acceptedAt n g) → List·Memᴰ c (acceptedAt n h))
+pub any-order : (g h : CardHistory) → ((n : ℕ) → n < 64 → (c : Card) → List·Memᴰ c (acceptedAt n g) → List·Memᴰ c (acceptedAt n h))
     → ((n : ℕ) → n < 64 → (c : Card) → List·Memᴰ c (acceptedAt n h) → List·Memᴰ c (acceptedAt n g)) → shelfOf g ≡ shelfOf h
-same-shelf g h there back =
+any-order g h there back =
     ap shelf
     (ext-getD blank (shelfOf g .slots) (shelfOf h .slots) (tidy g .long ∙ sym (tidy h .long))
-    (λ n l. let below : n < 64 = omega (arith, tidy g .long) in keeps-same (there n below) (back n below) (kept-cards g n below) (kept-cards h n below)))
+    (λ n l. let below : n < 64 = omega (arith, tidy g .long) in keeps-same (there n below) (back n below) (greatest-card g n below) (greatest-card h n below)))

@@ -22,12 +22,12 @@ use Rattle.packing.proofs.RefusalNumbers.{unpack-refuses}
 use Rattle.shelf.specs.declared.Shelf.{Shelf}
 use Rattle.shelf.specs.Shelves.{slotAt, putOf}
 use Rattle.shelf_octets.specs.ShelfOctets.{shelfIn, asOctets}
-use Rattle.filing.specs.Filing.{Filing, refusedFiling, accepted, filingOf, keptIf, filedBy, filedOf}
+use Rattle.filing.specs.Filing.{Filing, refusedFiling, accepted, filingOf, keptIf, filedBy, filedOf, issueFrom}
 use Rattle.filing.specs.Refused.{filingTable}
 use Rattle.filing.proofs.RefusalNumbers.{filing-refuses}
-use Rattle.queue.specs.Records.{issueFrom}
 use Rattle.queue.specs.declared.QueueFiled.{QueueFiled}
-use Rattle.queue.specs.Queues.{cutOf, recordsFiled, fromStart, queueRefusal, refusedQueue, acceptedQueue, queueFiled}
+use Rattle.cutting.specs.Cuts.{cutOf}
+use Rattle.queue.specs.Queues.{recordStep, recordsFiled, fromStart, queueRefusal, refusedQueue, acceptedQueue, queueFiled}
 use Rattle.report.specs.Texts.{listing}
 use Rattle.lent.specs.Lent.{Done, done, doneBoth, over, withCount, ifRoom}
 use Rattle.lent.proofs.Answers.{room-left, room-exactly as exactly}
@@ -159,7 +159,7 @@ module _ (s : List ℕ) (slot stored : ℕ) (s1 s3 s4 s5 s7 places : List ℕ) w
   )
 
 abbrev queued : List ℕ → List ℕ → Bool → QueueFiled
-queued s q t = cond t (acceptedQueue (recordsFiled (fromStart (shelfIn s)) (cutOf q .records))) (refusedQueue (shelfIn s) (queueRefusal q))
+queued s q t = cond t (acceptedQueue (recordsFiled (fromStart (shelfIn s)) (cutOf recordStep q .items))) (refusedQueue (shelfIn s) (queueRefusal q))
 
 pub queue-left : (s q places : List ℕ) → filedQueue s q places .answer ≡ 0 → (queueRefusal q ≡ 0) × Room s places 3 × (filedQueue s q places .lent .0 ≡ asOctets (queueFiled (shelfIn s) q .shelf))
 unfolding filedQueue queueKept queueFiled

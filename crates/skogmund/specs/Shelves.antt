@@ -16,8 +16,7 @@ use Rattle.shelf.specs.Shelves.{slotAt}
 use Rattle.shelf_octets.specs.ShelfOctets.{shelfIn, asOctets, joinOctets}
 use Rattle.filing.specs.declared.Answer.{Answer}
 use Rattle.filing.specs.declared.Answer.the-variants.{Kept, Passed, Refused as refusedField}
-use Rattle.filing.specs.Filing.{accepted, filingOf, filedOf}
-use Rattle.queue.specs.Records.{issueFrom}
+use Rattle.filing.specs.Filing.{accepted, filingOf, filedOf, issueFrom}
 use Rattle.queue.specs.declared.QueueAnswer.{QueueAnswer}
 use Rattle.queue.specs.declared.QueueAnswer.the-variants.{Filed as filedAll, Refused as refusedAll}
 use Rattle.queue.specs.Queues.{queueFiled}

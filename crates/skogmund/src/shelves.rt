@@ -6,11 +6,10 @@ ghost use lib.IntN.{pos};
 ghost use lib.ListN.{length};
 ghost use lib.Seq.{sets};
 ghost use Rattle.octets.specs.Octets.{part};
-ghost use Rattle.queue.specs.Records.{issueFrom};
 ghost use Rattle.lent.specs.Lent.{done, doneBoth, withCount};
 ghost use Rattle.skogmund.specs.Shelves.{emptied, joined, keptIn, filedField, filedQueue, slotNumbers, slotShown};
 use filing::Answer;
-use filing::Issue;
+use filing::StoredIssue;
 use queue::QueueAnswer;
 use shelf::Shelf;
 use shelf::Slot;
@@ -67,10 +66,9 @@ pub extern "C" fn skogmund_file<'s, 'a, 'k>(
 ) -> u64
     ensures { λ r. ⌜ doneBoth r (now (shelf .exit)) (now (kept .exit)) ≡ filedField (now (shelf .entry)) slot issue_plus_1 (now (section1 .entry)) (now (section3 .entry)) (now (section4 .entry)) (now (section5 .entry)) (now (section7 .entry)) (now (kept .entry)) ⌝ }
 {
-    if 4294967296 < issue_plus_1 {
+    let StoredIssue::Is(issue) = filing::issue_from(issue_plus_1) else {
         return MALFORMED;
-    }
-    let issue = issue_from(issue_plus_1);
+    };
     let done = filing::file_by_value(
         shelf_octets::read(shelf),
         slot as usize,
@@ -88,16 +86,6 @@ pub extern "C" fn skogmund_file<'s, 'a, 'k>(
         Answer::Passed => keep(shelf, kept, after, &[0]),
         Answer::Refused(x) => crate::code(x),
     }
-}
-
-fn issue_from(stored: u64) -> Issue
-    requires { ⌜ stored ≤ 4294967296 ⌝ }
-    ensures { λ r. ⌜ r ≡ issueFrom stored ⌝ }
-{
-    if stored == 0 {
-        return Issue::NotNamed;
-    }
-    Issue::Named((stored - 1) as u32)
 }
 
 // The shelf, and numbers in the first places, if there is room for both.

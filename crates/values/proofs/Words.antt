@@ -18,7 +18,7 @@ use Rattle.layout.specs.Fields.{none, missing, is, which, Meaning, unsigned, si
 use Rattle.layout.proofs.Outcomes.{either}
 use Rattle.layout.proofs.Ranges.{both-hold}
 use Rattle.values.specs.Records.{inRow, numbersIn}
-use Rattle.values.specs.Letters.{Kind, kindOf, numberOf, numbersBy}
+use Rattle.values.specs.Letters.{Kind, kindOf, rowNumber, numbersBy}
 
 pub octets-small : (letter : ℕ) → kindOf letter .octets ≤ 4
 unfolding kindOf
@@ -72,12 +72,12 @@ spelt (shown w ∷ fs) [] = spelt fs []
 spelt (shown w ∷ fs) (l ∷ ls) = false
 
 -- what octets mean always has one number
-one-number : (m : Meaning) (w x : ℕ) → inRow (means m w x) ≡ numberOf (means m w x) ∷ []
+one-number : (m : Meaning) (w x : ℕ) → inRow (means m w x) ≡ rowNumber (means m w x) ∷ []
 one-number unsigned w x = refl
 one-number signed w x = refl
 one-number (orMissing m) w x = by (eqb x (allOnes w)) (one-number m w x)
   where
-    by : (t : Bool) → inRow (means m w x) ≡ numberOf (means m w x) ∷ [] → inRow (cond t missing (means m w x)) ≡ numberOf (cond t missing (means m w x)) ∷ []
+    by : (t : Bool) → inRow (means m w x) ≡ rowNumber (means m w x) ∷ [] → inRow (cond t missing (means m w x)) ≡ rowNumber (cond t missing (means m w x)) ∷ []
     by true e = refl
     by false e = e
 
@@ -91,10 +91,10 @@ spelt-numbers (held w a m ∷ fs) (l ∷ ls) end k s e =
     let rest = both-hold _ _ (width .1) in
     let w≡ = eqb-true w (kindOf l .octets) (width .0) in
     let m≡ = same-meaning m (kindOf l .meaning) (rest .0) in
-    let number = numberOf (means m w (beAt s (end + k) w)) in
+    let number = rowNumber (means m w (beAt s (end + k) w)) in
     ap (λ (ns : List ℤ). ns ++ numbersIn (valuesOf (placed end (k + w) fs) s)) (one-number m w (beAt s (end + k) w))
     ∙ ap (λ (ns : List ℤ). number ∷ ns) (spelt-numbers fs ls end (k + w) s (rest .1) ∙ ap (λ (at : ℕ). numbersBy ls at s) (sym (add-assoc end k w)))
-    ∙ (λ i. numberOf (means (m≡ i) (w≡ i) (beAt s (end + k) (w≡ i))) ∷ numbersBy ls (end + k + w≡ i) s)
+    ∙ (λ i. rowNumber (means (m≡ i) (w≡ i) (beAt s (end + k) (w≡ i))) ∷ numbersBy ls (end + k + w≡ i) s)
 spelt-numbers (said none ∷ fs) ls end k s e = spelt-numbers fs ls end (k + 0) s e ∙ ap (λ (j : ℕ). numbersBy ls (end + j) s) (add-zero k)
 spelt-numbers (said missing ∷ fs) ls end k s e = absurd (true≢false (sym e))
 spelt-numbers (said (is z) ∷ fs) ls end k s e = absurd (true≢false (sym e))

@@ -33,15 +33,15 @@ kindOf letter =
     (kind 4 (orMissing unsigned))))))))))
 
 -- the number that stands for a value; octets never say `none` or `which`
-abbrev pub numberOf : Value → ℤ
-numberOf none = pos 0
-numberOf missing = missingNumber
-numberOf (is z) = z
-numberOf (which n) = pos 0
+abbrev pub rowNumber : Value → ℤ
+rowNumber none = pos 0
+rowNumber missing = missingNumber
+rowNumber (is z) = z
+rowNumber (which n) = pos 0
 
 -- the number of the field from octet `at` on
 abbrev pub numberBy : Kind → ℕ → List ℕ → ℤ
-numberBy k at s = numberOf (means (k .meaning) (k .octets) (beAt s at (k .octets)))
+numberBy k at s = rowNumber (means (k .meaning) (k .octets) (beAt s at (k .octets)))
 
 -- the numbers of fields one after the other, the first from octet `at` on
 unfoldable pub numbersBy : List ℕ → ℕ → List ℕ → List ℤ

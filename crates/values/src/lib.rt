@@ -12,7 +12,7 @@ ghost use Rattle.grid.specs.Section3.{outcome₃};
 ghost use Rattle.product.specs.Section4.{outcome₄};
 ghost use Rattle.lent.specs.Lent.{done, withCount};
 ghost use Rattle.values.specs.Records.{sectionOutcome, intoRow, PutsRecord};
-ghost use Rattle.values.specs.Letters.{kindOf, numberOf, numberBy, numbersBy};
+ghost use Rattle.values.specs.Letters.{kindOf, rowNumber, numberBy, numbersBy};
 use layout::I32OrMissing;
 use layout::Refusal;
 use layout::U32OrMissing;
@@ -185,7 +185,7 @@ fn field_at(s: &[u8], at: usize, letter: u8) -> Found
 }
 
 fn unsigned(x: U32OrMissing) -> i64
-    ensures { λ r. ⌜ r ≡ numberOf (in32 x) ⌝ }
+    ensures { λ r. ⌜ r ≡ rowNumber (in32 x) ⌝ }
 {
     match x {
         U32OrMissing::Missing => MISSING,
@@ -194,7 +194,7 @@ fn unsigned(x: U32OrMissing) -> i64
 }
 
 fn signed(x: I32OrMissing) -> i64
-    ensures { λ r. ⌜ r ≡ numberOf (inSigned x) ⌝ }
+    ensures { λ r. ⌜ r ≡ rowNumber (inSigned x) ⌝ }
 {
     match x {
         I32OrMissing::Missing => MISSING,

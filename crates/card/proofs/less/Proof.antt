@@ -6,7 +6,6 @@ use borrow.Author.Needs.{needs}
 use Rattle.card.proofs.less.Statement.{statement}
 use Rattle.card.proofs.less.Tie as tie
 
--- src/lib.rt:24:1
 returns : tie.Need-returns
 unfolding lessCard keyOf lex
 returns c =

@@ -5,24 +5,6 @@ use Rattle.octets.proofs.Free.{free}
 use Rattle.queue.proofs.file_next.Statement.{statement}
 use Rattle.queue.proofs.file_next.Tie as tie
 
-enum-told : tie.Need-enum-told
-enum-told c = search needs
-
-add-counts : tie.Need-add-counts
-add-counts c = search needs
-
-enum-told-2 : tie.Need-enum-told-2
-enum-told-2 c = search needs
-
-add-counts-2 : tie.Need-add-counts-2
-add-counts-2 c = search needs
-
-enum-told-3 : tie.Need-enum-told-3
-enum-told-3 c = search needs
-
-add-counts-3 : tie.Need-add-counts-3
-add-counts-3 c = search needs
-
 returns : tie.Need-returns
 returns c = simp (← c .before .before .before .before .before .file-record .ensures, c .before .enum-told .given .1)
 
@@ -37,12 +19,12 @@ file-next-spec =
     tie.close
     (tie.spec
     free
-    enum-told
-    add-counts
-    enum-told-2
-    add-counts-2
-    enum-told-3
-    add-counts-3
+    (λ c. search needs)
+    (λ c. search needs)
+    (λ c. search needs)
+    (λ c. search needs)
+    (λ c. search needs)
+    (λ c. search needs)
     returns
     returns-2
     returns-3)

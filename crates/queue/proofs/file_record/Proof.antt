@@ -7,17 +7,11 @@ use Rattle.queue.specs.Queues.{bodyFiling, recordFiling, recordFiled}
 use Rattle.queue.proofs.file_record.Statement.{statement}
 use Rattle.queue.proofs.file_record.Tie as tie
 
-enum-known-cut : tie.Need-enum-known-cut
-enum-known-cut c = search needs
-
-enum-told : tie.Need-enum-told
-enum-told c = search needs
-
 returns : tie.Need-returns
 unfolding recordFiled recordFiling bodyFiling filedBy
 returns c =
     let b = c .before .before in
-    simp (← b .before .between .ensures, ← b .body-of .ensures, c .enum-told .given .1)
+    simp (← b .before .stretch .ensures, ← b .body-of .ensures, c .enum-told .given .1)
 
 returns-2 : tie.Need-returns-2
 unfolding recordFiled recordFiling bodyFiling filedOf
@@ -31,16 +25,16 @@ returns-2 c =
     let b = cut .before .before in
     simp (
       c .file-by-value .ensures,
-      s1 .between2 .ensures,
-      s3 .between3 .ensures,
-      s4 .between4 .ensures,
-      s5 .between5 .ensures,
-      s7 .between6 .ensures,
-      ← b .before .between .ensures,
+      s1 .stretch2 .ensures,
+      s3 .stretch3 .ensures,
+      s4 .stretch4 .ensures,
+      s5 .stretch5 .ensures,
+      s7 .stretch6 .ensures,
+      ← b .before .stretch .ensures,
       ← b .body-of .ensures,
       cut .cut .given .1,
     )
 
 pub file-record-spec : {M : Type 1} → statement M
 file-record-spec =
-    tie.close (tie.spec free free enum-known-cut enum-told returns free free free free free free returns-2)
+    tie.close (tie.spec free free (λ c. search needs) (λ c. search needs) returns free free free free free free returns-2)

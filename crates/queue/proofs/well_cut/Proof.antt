@@ -8,14 +8,15 @@ use lib.ListN.{length, drop}
 use denote.Ref.{now}
 use borrow.Author.Needs.{needs}
 use Rattle.octets.proofs.Free.{free}
-use Rattle.queue.specs.Queues.{Cut, cutOf}
-use Rattle.queue.proofs.Walks.{Onward, walk-on, walk-broken, walk-end}
+use Rattle.cutting.specs.Cuts.{Cut, cutOf}
+use Rattle.queue.specs.Queues.{Sent, recordStep}
+use Rattle.queue.proofs.Cuts.{RecordAt, record-at, no-record-at, end-at}
 use Rattle.queue.proofs.well_cut.Statement.{statement}
 use Rattle.queue.proofs.well_cut.Tie as tie
 
 record Inv (queue : List ℕ) (i : ℕ) : Type 0 where
   inside : i ≤ length queue
-  so-far : cutOf (drop i queue) .whole ≡ cutOf queue .whole
+  so-far : cutOf recordStep (drop i queue) .whole ≡ cutOf recordStep queue .whole
 
 abbrev Inv-loop : tie.InvT-loop
 Inv-loop queue i₀ i = Inv queue i
@@ -26,33 +27,18 @@ abbrev μ-loop : tie.MeasureT-loop
 loop-holds : tie.Need-loop-holds Inv-loop μ-loop
 loop-holds c = record { inside = omega arith; so-far = refl }
 
-sub-record-of : tie.Need-sub-record-of Inv-loop μ-loop
-sub-record-of c = search needs
-
-part-record-of-start : tie.Need-part-record-of-start Inv-loop μ-loop
-part-record-of-start c = search needs
-
-part-record-of-end : tie.Need-part-record-of-end Inv-loop μ-loop
-part-record-of-end c = search needs
-
-enum-known-head : tie.Need-enum-known-head Inv-loop μ-loop
-enum-known-head c = search needs
-
-enum-told : tie.Need-enum-told Inv-loop μ-loop
-enum-told c = search needs
-
 returns : tie.Need-returns Inv-loop μ-loop
 returns c =
     let r = c .before .before in
     let l = r .before .before .before in
-    let broken = walk-broken (now (l .before .before .args .queue)) (l .loop .i) (r .before .before .loop-test .taken) (sym (r .record-of .ensures) ∙ c .enum-told .given .1) in
-    sym (ap (λ (x : Cut). x .whole) broken) ∙ l .loop .inv .so-far
+    let broken = no-record-at (now (l .before .before .args .queue)) (l .loop .i) (r .before .before .loop-test .taken) (sym (r .record-of .ensures) ∙ c .enum-told .given .1) in
+    sym (ap (λ (x : Cut Sent). x .whole) broken) ∙ l .loop .inv .so-far
 
-on : (c : tie.After-struct-known Inv-loop μ-loop) → Onward (now (c .before .before .before .before .before .before .before .before .before .args .queue)) (c .before .before .before .before .before .before .before .loop .i) (c .before .before .head .given .0 .0)
+on : (c : tie.After-struct-known Inv-loop μ-loop) → RecordAt (now (c .before .before .before .before .before .before .before .before .before .args .queue)) (c .before .before .before .before .before .before .before .loop .i) (c .before .before .head .given .0 .0)
 on c =
     let r = c .before .before .before .before in
     let l = r .before .before .before in
-    walk-on (now (l .before .before .args .queue)) (l .loop .i) _ (l .loop .inv .inside) (sym (r .record-of .ensures) ∙ c .before .before .head .given .1)
+    record-at (now (l .before .before .args .queue)) (l .loop .i) _ (l .loop .inv .inside) (sym (r .record-of .ensures) ∙ c .before .before .head .given .1)
 
 add-i : tie.Need-add-i Inv-loop μ-loop
 add-i c = omega (arith, on c .inside, c .before .before .before .before .before .before .before .before .before .good)
@@ -64,13 +50,13 @@ loop-again : tie.Need-loop-again Inv-loop μ-loop
 loop-again c =
     record {
       inside = on c .inside;
-      so-far = sym (ap (λ (x : Cut). x .whole) (on c .cut)) ∙ c .before .before .before .before .before .before .before .loop .inv .so-far;
+      so-far = sym (ap (λ (x : Cut Sent). x .whole) (on c .cut)) ∙ c .before .before .before .before .before .before .before .loop .inv .so-far;
     }
 
 returns-2 : tie.Need-returns-2 Inv-loop μ-loop
 returns-2 c =
     let l = c .before in
-    sym (ap (λ (x : Cut). x .whole) (walk-end (now (l .before .before .args .queue)) (l .loop .i) (c .loop-test .left))) ∙ l .loop .inv .so-far
+    sym (ap (λ (x : Cut Sent). x .whole) (end-at (now (l .before .before .args .queue)) (l .loop .i) (c .loop-test .left))) ∙ l .loop .inv .so-far
 
 pub well-cut-spec : {M : Type 1} → statement M
 well-cut-spec =
@@ -79,12 +65,12 @@ well-cut-spec =
     Inv-loop
     μ-loop
     loop-holds
-    sub-record-of
-    part-record-of-start
-    part-record-of-end
+    (λ c. search needs)
+    (λ c. search needs)
+    (λ c. search needs)
     free
-    enum-known-head
-    enum-told
+    (λ c. search needs)
+    (λ c. search needs)
     returns
     add-i
     loop-less

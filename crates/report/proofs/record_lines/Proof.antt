@@ -11,8 +11,10 @@ use Rattle.octets.proofs.Free.{free}
 use Rattle.shelf.specs.declared.Shelf.{Shelf}
 use Rattle.shelf.specs.Shelves.{emptyShelf}
 use Rattle.filing.specs.declared.Filed.{Filed}
-use Rattle.queue.specs.Queues.{Cut, recordIn, cutOf}
-use Rattle.queue.proofs.Walks.{Onward, restAt, walk-on, walk-broken, walk-end}
+use Rattle.cutting.specs.Cuts.{Cut, cutOf}
+use Rattle.cutting.proofs.Walks.{restAt}
+use Rattle.queue.specs.Queues.{Sent, recordIn, recordStep}
+use Rattle.queue.proofs.Cuts.{RecordAt, record-at, no-record-at, end-at}
 use Rattle.lent.specs.Written.{Written, written, append}
 use Rattle.lent.proofs.Written.{Writing, writes-on, writes-all}
 use Rattle.report.specs.Texts.{recordLine, recordLines}
@@ -22,7 +24,7 @@ use Rattle.report.proofs.record_lines.Tie as tie
 record Inv (first : Written) (queue : List ℕ) (here : Written) (shelf : Shelf) (k i : ℕ) : Type 0 where
   inside : i ≤ length queue
   number : k ≤ i + 1
-  rest : Writing first (recordLines 1 emptyShelf (cutOf queue .records)) here (recordLines k shelf (cutOf (drop i queue) .records))
+  rest : Writing first (recordLines 1 emptyShelf (cutOf recordStep queue .items)) here (recordLines k shelf (cutOf recordStep (drop i queue) .items))
 
 abbrev Inv-loop : tie.InvT-loop
 Inv-loop out₀ at queue next₀ shelf₀ k₀ i₀ out next shelf k i = Inv (written out₀ at) queue (written out next) shelf k i
@@ -37,23 +39,8 @@ loop-holds c =
     record {
       inside = omega arith;
       number = omega arith;
-      rest = record { room = refl; left = ap (λ (s : Shelf). append x (recordLines 1 s (cutOf (now (a .queue)) .records))) (c .empty .ensures) };
+      rest = record { room = refl; left = ap (λ (s : Shelf). append x (recordLines 1 s (cutOf recordStep (now (a .queue)) .items))) (c .empty .ensures) };
     }
-
-sub-rest : tie.Need-sub-rest Inv-loop μ-loop
-sub-rest c = search needs
-
-part-rest-start : tie.Need-part-rest-start Inv-loop μ-loop
-part-rest-start c = search needs
-
-part-rest-end : tie.Need-part-rest-end Inv-loop μ-loop
-part-rest-end c = search needs
-
-enum-known-head : tie.Need-enum-known-head Inv-loop μ-loop
-enum-known-head c = search needs
-
-enum-told : tie.Need-enum-told Inv-loop μ-loop
-enum-told c = search needs
 
 same-length : tie.Need-same-length Inv-loop μ-loop
 same-length c = c .before .before .before .before .before .loop .inv .rest .room
@@ -63,19 +50,19 @@ unfolding recordLines
 returns c =
     let r = c .before .before in
     let l = r .before .before .before in
-    let broken = walk-broken (now (l .before .before .before .before .args .queue)) (l .loop .i) (r .before .before .loop-test .taken) (sym (r .record-of .ensures) ∙ c .enum-told .given .1) in
-    writes-all _ _ _ (l .loop .inv .rest) (ap (λ (x : Cut). recordLines (l .loop .k) (l .loop .shelf) (x .records)) broken)
+    let broken = no-record-at (now (l .before .before .before .before .args .queue)) (l .loop .i) (r .before .before .loop-test .taken) (sym (r .record-of .ensures) ∙ c .enum-told .given .1) in
+    writes-all _ _ _ (l .loop .inv .rest) (ap (λ (x : Cut Sent). recordLines (l .loop .k) (l .loop .shelf) (x .items)) broken)
 
 add-k : tie.Need-add-k Inv-loop μ-loop
 add-k c =
     let l = c .before .before .before .before .before .before .before .before .before .before .before .before in
     omega (arith, l .loop .inv .number, l .loop .inv .inside, l .before .before .before .before .good)
 
-on : (c : tie.After-struct-known Inv-loop μ-loop) → Onward (now (c .before .before .before .before .before .before .before .before .before .before .before .before .before .before .before .before .before .args .queue)) (c .before .before .before .before .before .before .before .before .before .before .before .before .before .loop .i) (c .before .before .before .before .before .before .before .before .head .given .0 .0)
+on : (c : tie.After-struct-known Inv-loop μ-loop) → RecordAt (now (c .before .before .before .before .before .before .before .before .before .before .before .before .before .before .before .before .before .args .queue)) (c .before .before .before .before .before .before .before .before .before .before .before .before .before .loop .i) (c .before .before .before .before .before .before .before .before .head .given .0 .0)
 on c =
     let r = c .before .before .before .before .before .before .before .before .before .before in
     let l = r .before .before .before in
-    walk-on (now (l .before .before .before .before .args .queue)) (l .loop .i) _ (l .loop .inv .inside) (sym (r .record-of .ensures) ∙ c .before .before .before .before .before .before .before .before .head .given .1)
+    record-at (now (l .before .before .before .before .args .queue)) (l .loop .i) _ (l .loop .inv .inside) (sym (r .record-of .ensures) ∙ c .before .before .before .before .before .before .before .before .head .given .1)
 
 add-i : tie.Need-add-i Inv-loop μ-loop
 add-i c = omega (arith, on c .inside, c .before .before .before .before .before .before .before .before .before .before .before .before .before .before .before .before .before .good)
@@ -94,14 +81,14 @@ loop-again c =
     let r = recordIn (restAt q (l .loop .i)) h in
     let x = written (l .loop .out) (l .loop .next) in
     let k = l .loop .k in
-    let rest = cutOf (drop (l .loop .i + h .end) q) .records in
+    let rest = cutOf recordStep (drop (l .loop .i + h .end) q) .items in
     let filed = f .file-record .ensures in
     record {
       inside = on c .inside;
       number = omega (arith, l .loop .inv .number, on c .more);
       rest =
           writes-on _ _ x (recordLine k (r .slot) (r .issue) (f .file-record .result .answer)) _ (l .loop .inv .rest)
-          (ap (λ (y : Cut). recordLines k (l .loop .shelf) (y .records)) (on c .cut)
+          (ap (λ (y : Cut Sent). recordLines k (l .loop .shelf) (y .items)) (on c .cut)
           ∙ sym (ap (λ (y : Filed). recordLine k (r .slot) (r .issue) (y .answer) ++ recordLines (k + 1) (y .shelf) rest) filed))
           (line .record-line .ensures);
     }
@@ -114,7 +101,7 @@ unfolding recordLines
 returns-2 c =
     let l = c .before in
     writes-all _ _ _ (l .loop .inv .rest)
-    (ap (λ (x : Cut). recordLines (l .loop .k) (l .loop .shelf) (x .records)) (walk-end (now (l .before .before .before .before .args .queue)) (l .loop .i) (c .loop-test .left)))
+    (ap (λ (x : Cut Sent). recordLines (l .loop .k) (l .loop .shelf) (x .items)) (end-at (now (l .before .before .before .before .args .queue)) (l .loop .i) (c .loop-test .left)))
 
 pub record-lines-spec : {M : Type 1} → statement M
 record-lines-spec =
@@ -124,12 +111,12 @@ record-lines-spec =
     μ-loop
     free
     loop-holds
-    sub-rest
-    part-rest-start
-    part-rest-end
+    (λ c. search needs)
+    (λ c. search needs)
+    (λ c. search needs)
     free
-    enum-known-head
-    enum-told
+    (λ c. search needs)
+    (λ c. search needs)
     same-length
     returns
     free

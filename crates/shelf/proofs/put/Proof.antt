@@ -13,7 +13,6 @@ use borrow.Author.Needs.{needs}
 use Rattle.shelf.proofs.put.Statement.{statement}
 use Rattle.shelf.proofs.put.Tie as tie
 
--- src/lib.rt:46:9
 length-is : (s : tie.Start) → length (s .args .shelf .slots) ≡ 64
 length-is s = search (needs, unmapped)
 
@@ -22,7 +21,6 @@ returns c =
     let s = c .before in
     rw (le-ltb (s .args .slot) 64 (omega arith), set-out (s .args .shelf .slots) (s .args .slot) _ (omega (arith, length-is s)))
 
--- src/lib.rt:42:1
 -- what was tested is what the contract says of the slot
 old : (c : tie.After-less-slot) → c .less-slot .result ≡ lessSlot (slotAt (c .before .before .before .args .shelf) (c .before .before .before .args .slot)) (holding (c .before .before .before .args .card))
 old c =
@@ -36,7 +34,6 @@ returns-2 c =
     let t : lessSlot (slotAt (s .args .shelf) (s .args .slot)) (holding (s .args .card)) ≡ true = sym (old (c .before)) ∙ c .if2 .taken in
     rw (lt-ltb (s .args .slot) 64 (omega arith), t, max-right slot-strict _ _ t)
 
--- src/lib.rt:42:1
 returns-3 : tie.Need-returns-3
 unfolding greaterSlot
 returns-3 c =

@@ -8,7 +8,7 @@ use mathlib.Core.Path.{_≡_, refl, ap, sym, _∙_}
 use mathlib.Core.List.{List}
 use lib.IntN.{ℤ}
 use Rattle.octets.proofs.Signs.{kept64, wide-kept, wide-fits}
-use Rattle.values.specs.Letters.{kindOf, numberOf, numberBy}
+use Rattle.values.specs.Letters.{kindOf, rowNumber, numberBy}
 use Rattle.values.proofs.Words.{widened}
 use Rattle.values.proofs.field_at.Statement.{statement}
 use Rattle.values.proofs.field_at.Tie as tie
@@ -39,19 +39,19 @@ returns-5 c = arm _ _ (c .before .match .keys5) (wide-kept (c .signed32-at .resu
 
 returns-6 : tie.Need-returns-6
 unfolding kindOf
-returns-6 c = arm _ _ (c .before .before .match .keys6) (kept64 (c .signed .result) (c .signed .ok) ∙ (c .signed .ensures ∙ ap numberOf (c .before .signed8-or-missing .ensures))) refl
+returns-6 c = arm _ _ (c .before .before .match .keys6) (kept64 (c .signed .result) (c .signed .ok) ∙ (c .signed .ensures ∙ ap rowNumber (c .before .signed8-or-missing .ensures))) refl
 
 returns-7 : tie.Need-returns-7
 unfolding kindOf
-returns-7 c = arm _ _ (c .before .before .match .keys7) (kept64 (c .signed2 .result) (c .signed2 .ok) ∙ (c .signed2 .ensures ∙ ap numberOf (c .before .signed32-or-missing .ensures))) refl
+returns-7 c = arm _ _ (c .before .before .match .keys7) (kept64 (c .signed2 .result) (c .signed2 .ok) ∙ (c .signed2 .ensures ∙ ap rowNumber (c .before .signed32-or-missing .ensures))) refl
 
 returns-8 : tie.Need-returns-8
 unfolding kindOf
-returns-8 c = arm _ _ (c .before .before .match .keys8) (kept64 (c .unsigned .result) (c .unsigned .ok) ∙ (c .unsigned .ensures ∙ ap numberOf (c .before .u8-or-missing .ensures))) refl
+returns-8 c = arm _ _ (c .before .before .match .keys8) (kept64 (c .unsigned .result) (c .unsigned .ok) ∙ (c .unsigned .ensures ∙ ap rowNumber (c .before .u8-or-missing .ensures))) refl
 
 returns-9 : tie.Need-returns-9
 unfolding kindOf
-returns-9 c = arm _ _ (c .before .before .match .keys9) (kept64 (c .unsigned2 .result) (c .unsigned2 .ok) ∙ (c .unsigned2 .ensures ∙ ap numberOf (c .before .u16-or-missing .ensures))) refl
+returns-9 c = arm _ _ (c .before .before .match .keys9) (kept64 (c .unsigned2 .result) (c .unsigned2 .ok) ∙ (c .unsigned2 .ensures ∙ ap rowNumber (c .before .u16-or-missing .ensures))) refl
 
 returns-10 : tie.Need-returns-10
 unfolding kindOf
@@ -68,7 +68,7 @@ returns-10 c =
       ne-eqb _ _ (other .0 .1),
       ne-eqb _ _ (other .1),
     )
-    (kept64 (c .unsigned3 .result) (c .unsigned3 .ok) ∙ (c .unsigned3 .ensures ∙ ap numberOf (c .before .u32-or-missing .ensures)), refl)
+    (kept64 (c .unsigned3 .result) (c .unsigned3 .ok) ∙ (c .unsigned3 .ensures ∙ ap rowNumber (c .before .u32-or-missing .ensures)), refl)
 
 pub field-at-spec : {M : Type 1} → statement M
 field-at-spec =

@@ -9,39 +9,30 @@ Inv-loop shelf i₀ i = Unit {0}
 abbrev μ-loop : tie.MeasureT-loop
 μ-loop shelf i₀ i = 64 - i
 
--- src/shelves.rt:54:18
 slice-aggregate-text : tie.Need-slice-aggregate-text Inv-loop μ-loop
 slice-aggregate-text c = omega arith
 
--- src/shelves.rt:54:5
 text-requires : tie.Need-text-requires Inv-loop μ-loop
 text-requires c κs = tt
 
--- src/shelves.rt:56:5
 loop-holds : tie.Need-loop-holds Inv-loop μ-loop
 loop-holds c = tt
 
--- src/shelves.rt:57:19
 slot-of-requires : tie.Need-slot-of-requires Inv-loop μ-loop
 slot-of-requires c κs = tt
 
--- src/shelves.rt:57:9
 show-slot-requires : tie.Need-show-slot-requires Inv-loop μ-loop
 show-slot-requires c κs = tt
 
--- src/shelves.rt:58:9
 add-i : tie.Need-add-i Inv-loop μ-loop
 add-i c = omega arith
 
--- src/shelves.rt:56:5
 loop-less : tie.Need-loop-less Inv-loop μ-loop
 loop-less c = omega arith
 
--- src/shelves.rt:56:5
 loop-again : tie.Need-loop-again Inv-loop μ-loop
 loop-again c = tt
 
--- src/shelves.rt:53:1
 returns : tie.Need-returns Inv-loop μ-loop
 returns c = tt
 

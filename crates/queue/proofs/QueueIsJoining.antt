@@ -5,12 +5,13 @@ use mathlib.Core.Bool.{Bool, true, false}
 use mathlib.Core.List.{List}
 use Prim.Native.Nat.{ℕ}
 use lib.Dec.{eqb}
+use Rattle.cutting.specs.Cuts.{cutOf}
 use Rattle.shelf.specs.Shelves.{emptyShelf, joinShelf}
 use Rattle.shelf.specs.declared.Shelf.{Shelf}
 use Rattle.shelf.specs.History.{Tidy}
 use Rattle.shelf.proofs.Laws.{shelf-join, join-empty, file-is-join, tidy-join}
-use Rattle.queue.specs.Queues.{Sent, recordsFiled, fromStart, cutOf, queueRefusal, queueFiled}
-use Rattle.queue.specs.History.{History, start, queue, join, shelfOf}
+use Rattle.queue.specs.Queues.{Sent, recordsFiled, fromStart, recordStep, queueRefusal, queueFiled}
+use Rattle.queue.specs.History.{start, queue, shelfOf}
 use Rattle.queue.proofs.RecordsAsCards.{cardsIn, records-are-cards}
 use Rattle.queue.proofs.Histories.{tidy}
 
@@ -18,37 +19,27 @@ records-join : (rs : List Sent) (s : Shelf) → Tidy s → recordsFiled (fromSta
 records-join rs s t =
     records-are-cards rs (fromStart s) ∙ file-is-join (cardsIn rs) s t ∙ ap (joinShelf s) (sym (records-are-cards rs (fromStart emptyShelf)))
 
--- ---- the theorems
+-- ---- the theorems, of every shelf whose empty slots are blank, as those of histories are
 
-pub queue-is-join : (q : List ℕ) (s : Shelf) → Tidy s → queueFiled s q .shelf ≡ joinShelf s (queueFiled emptyShelf q .shelf)
+pub queue-is-joining : (q : List ℕ) (s : Shelf) → Tidy s → queueFiled s q .shelf ≡ joinShelf s (queueFiled emptyShelf q .shelf)
 unfolding queueFiled
-queue-is-join q s t = by-refusal (eqb (queueRefusal q) 0) refl
+queue-is-joining q s t = by-refusal (eqb (queueRefusal q) 0) refl
   where
     by-refusal : (b : Bool) → eqb (queueRefusal q) 0 ≡ b → queueFiled s q .shelf ≡ joinShelf s (queueFiled emptyShelf q .shelf)
-    by-refusal true e = rw e (records-join (cutOf q .records) s t)
+    by-refusal true e = rw e (records-join (cutOf recordStep q .items) s t)
     by-refusal false e = rw e (sym (join-empty s t))
-
--- said of histories
-pub queue-joins : (q : List ℕ) (h : History) → shelfOf (queue q h) ≡ shelfOf (join h (queue q start))
-unfolding shelfOf
-queue-joins q h = queue-is-join q (shelfOf h) (tidy h)
 
 made-tidy : (q : List ℕ) → Tidy (queueFiled emptyShelf q .shelf)
 unfolding shelfOf
 made-tidy q = tidy (queue q start)
 
 -- the same queue again changes nothing more
-pub queue-twice : (q : List ℕ) (s : Shelf) → Tidy s → queueFiled (queueFiled s q .shelf) q .shelf ≡ queueFiled s q .shelf
-queue-twice q s t =
+pub queue-again : (q : List ℕ) (s : Shelf) → Tidy s → queueFiled (queueFiled s q .shelf) q .shelf ≡ queueFiled s q .shelf
+queue-again q s t =
     let made = queueFiled emptyShelf q .shelf in
-    let one = queue-is-join q s t in
+    let one = queue-is-joining q s t in
     ap (λ (x : Shelf). queueFiled x q .shelf) one
-    ∙ queue-is-join q (joinShelf s made) (tidy-join s made t (made-tidy q))
+    ∙ queue-is-joining q (joinShelf s made) (tidy-join s made t (made-tidy q))
     ∙ shelf-join .assoc s made made
     ∙ ap (joinShelf s) (shelf-join .idem made)
     ∙ sym one
-
--- said of histories
-pub queue-again : (q : List ℕ) (h : History) → shelfOf (queue q (queue q h)) ≡ shelfOf (queue q h)
-unfolding shelfOf
-queue-again q h = queue-twice q (shelfOf h) (tidy h)

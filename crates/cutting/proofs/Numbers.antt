@@ -10,9 +10,9 @@ use lib.Dec.{ltb, eqb}
 use lib.ListN.{length, drop, getD, drop-of-length-le}
 use lib.Seq.{drop-cons}
 use borrow.Author.Tests.{ne-eqb, eqb-false, lt-ltb, le-ltb}
-use Rattle.queue.specs.Numbers.{before, groups}
-use Rattle.queue.specs.declared.Number.{Number}
-use Rattle.queue.specs.declared.Number.the-variants.{Found, Malformed}
+use Rattle.cutting.specs.Numbers.{before, groups}
+use Rattle.cutting.specs.declared.Number.{Number}
+use Rattle.cutting.specs.declared.Number.the-variants.{Found, Malformed}
 
 -- `i` groups of this value, and what follows them
 abbrev pub shifted : ℕ → ℕ → ℕ → Number → Number

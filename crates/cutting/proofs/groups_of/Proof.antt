@@ -10,11 +10,11 @@ use borrow.Author.Tests.{ne-eqb}
 use denote.Ref.{now}
 use mathlib.Core.Bool.{Bool, cond}
 use native.Mathlib.Nat.{mul-le-mul-right, mul-le-mul-left}
-use Rattle.queue.specs.Numbers.{groups, before}
-use Rattle.queue.specs.declared.Number.the-variants.{Found, Malformed}
-use Rattle.queue.proofs.Numbers.{shifted, shift-before, first-shifted, group-last, group-more, group-end}
-use Rattle.queue.proofs.groups_of.Statement.{statement}
-use Rattle.queue.proofs.groups_of.Tie as tie
+use Rattle.cutting.specs.Numbers.{groups, before}
+use Rattle.cutting.specs.declared.Number.the-variants.{Found, Malformed}
+use Rattle.cutting.proofs.Numbers.{shifted, shift-before, first-shifted, group-last, group-more, group-end}
+use Rattle.cutting.proofs.groups_of.Statement.{statement}
+use Rattle.cutting.proofs.groups_of.Tie as tie
 
 record Going (s : List ℕ) (value scale i : ℕ) : Type 0 where
   least : 1 ≤ i
@@ -54,20 +54,11 @@ abbrev μ-loop : tie.MeasureT-loop
 returns : tie.Need-returns Inv-loop μ-loop
 returns c = sym (group-end (now (c .before .args .octets)) 0 5 (omega arith))
 
-shared-slice-read-first : tie.Need-shared-slice-read-first Inv-loop μ-loop
-shared-slice-read-first c = omega arith
-
-cast-t11 : tie.Need-cast-t11 Inv-loop μ-loop
-cast-t11 c = omega arith
-
 returns-2 : tie.Need-returns-2 Inv-loop μ-loop
 returns-2 c = sym (group-last (now (c .before .before .before .args .octets)) 0 4 (omega arith) (c .if2 .taken))
 
 cast-value : tie.Need-cast-value Inv-loop μ-loop
 cast-value c = omega (arith, c .before .shared-slice-known .given 0)
-
-sub-value : tie.Need-sub-value Inv-loop μ-loop
-sub-value c = omega arith
 
 loop-holds : tie.Need-loop-holds Inv-loop μ-loop
 loop-holds c =
@@ -86,9 +77,6 @@ returns-3 c =
     let l = c .before .before .loop in
     let s = now (c .before .before .before .before .before .before .args .octets) in
     sym (g .so-far ∙ ap (shifted (l .value) (l .scale) (l .i)) (group-end s (l .i) (5 - l .i) (omega arith)))
-
-shared-slice-read-group : tie.Need-shared-slice-read-group Inv-loop μ-loop
-shared-slice-read-group c = omega arith
 
 cast-group : tie.Need-cast-group Inv-loop μ-loop
 cast-group c = omega (arith, c .shared-slice-known2 .given (c .before .before .before .loop .i))
@@ -113,9 +101,6 @@ add-t19 c =
     let x = getD (now (c .before .before .before .before .before .before .before .before .before .args .octets)) (l .i) 0 in
     let most = scale-most (l .scale) (l .i) (l .inv .power) (omega arith) in
     omega (arith, most, l .inv .below, mul-le-mul-right x most)
-
-add-t20 : tie.Need-add-t20 Inv-loop μ-loop
-add-t20 c = omega arith
 
 returns-5 : tie.Need-returns-5 Inv-loop μ-loop
 returns-5 c =
@@ -146,17 +131,7 @@ add-value c =
 mul-scale : tie.Need-mul-scale Inv-loop μ-loop
 mul-scale c =
     let l = c .before .before .before .before .loop in
-    let s = now (c .before .before .before .before .before .before .before .before .args .octets) in
-    let low = getD s (l .i) 0 - 128 in
-    let octet = c .before .shared-slice-known2 .given (l .i) in
-    let most = scale-most (l .scale) (l .i) (l .inv .power) (omega arith) in
-    omega (arith, most)
-
-add-i : tie.Need-add-i Inv-loop μ-loop
-add-i c = omega arith
-
-loop-less : tie.Need-loop-less Inv-loop μ-loop
-loop-less c = omega arith
+    omega (arith, scale-most (l .scale) (l .i) (l .inv .power) (omega arith))
 
 loop-again : tie.Need-loop-again Inv-loop μ-loop
 loop-again c =
@@ -189,24 +164,24 @@ groups-of-spec =
     Inv-loop
     μ-loop
     returns
-    shared-slice-read-first
-    cast-t11
+    (λ c. omega arith)
+    (λ c. omega arith)
     returns-2
     cast-value
-    sub-value
+    (λ c. omega arith)
     loop-holds
     returns-3
-    shared-slice-read-group
+    (λ c. omega arith)
     cast-group
     returns-4
     mul-t18
     add-t19
-    add-t20
+    (λ c. omega arith)
     returns-5
     mul-value
     add-value
     mul-scale
-    add-i
-    loop-less
+    (λ c. omega arith)
+    (λ c. omega arith)
     loop-again
     returns-6)

@@ -11,9 +11,9 @@ use lib.Dec.{ltb, eqb}
 use lib.ListN.{length, take}
 use borrow.Author.Tests.{ltb-false, lt-ltb, le-ltb, eqb-false, ne-eqb}
 use Rattle.octets.specs.Octets.{AllOctets}
-use Rattle.queue.specs.Numbers.{before, groups, bounded, numberOf, spelled}
-use Rattle.queue.specs.declared.Number.{Number}
-use Rattle.queue.specs.declared.Number.the-variants.{Found, Malformed}
+use Rattle.cutting.specs.Numbers.{before, groups, bounded, leadingNumber, spelled}
+use Rattle.cutting.specs.declared.Number.{Number}
+use Rattle.cutting.specs.declared.Number.the-variants.{Found, Malformed}
 
 -- what stands behind a group with the top bit set
 pub record Behind (low n count : ℕ) (r : Number) : Type 0 where
@@ -90,14 +90,14 @@ of-groups (Found m k) n count e = by-bound (ltb 4294967296 m) e
     by-bound false e = e
 
 -- no number has two spellings
-pub no-two : (s t : List ℕ) (n i j : ℕ) → AllOctets s → AllOctets t → numberOf s ≡ Found n i → numberOf t ≡ Found n j → take i s ≡ take j t
-unfolding numberOf
+pub no-two : (s t : List ℕ) (n i j : ℕ) → AllOctets s → AllOctets t → leadingNumber s ≡ Found n i → leadingNumber t ≡ Found n j → take i s ≡ take j t
+unfolding leadingNumber
 no-two s t n i j o p e f =
     one-spelling 5 s n i o (of-groups (groups 5 s) n i e) ∙ sym (one-spelling 5 t n j p (of-groups (groups 5 t) n j f))
 
 -- and each has one
-pub has-one : (n : ℕ) (rest : List ℕ) → n ≤ 4294967296 → numberOf (spelled 5 n ++ rest) ≡ Found n (length (spelled 5 n))
-unfolding numberOf
+pub has-one : (n : ℕ) (rest : List ℕ) → n ≤ 4294967296 → leadingNumber (spelled 5 n ++ rest) ≡ Found n (length (spelled 5 n))
+unfolding leadingNumber
 has-one n rest h =
     ap bounded (read-back 4 n rest (omega arith))
     ∙ ap (λ (t : Bool). cond t Malformed (Found n (length (spelled 5 n)))) (le-ltb 4294967296 n h)

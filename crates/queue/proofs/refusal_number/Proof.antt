@@ -1,8 +1,8 @@
 use borrow.Author.Tests.{lt-ltb, le-ltb}
 use Rattle.octets.proofs.Free.{free}
 use Rattle.queue.specs.Queues.{queueRefusal}
-use Rattle.queue.proofs.refusal_of.Statement.{statement}
-use Rattle.queue.proofs.refusal_of.Tie as tie
+use Rattle.queue.proofs.refusal_number.Statement.{statement}
+use Rattle.queue.proofs.refusal_number.Tie as tie
 
 returns : tie.Need-returns
 unfolding queueRefusal
@@ -16,5 +16,5 @@ returns-3 : tie.Need-returns-3
 unfolding queueRefusal
 returns-3 c = simp (le-ltb _ _ (c .before .before .if1 .left), ← c .before .well-cut .ensures, c .if2 .left)
 
-pub refusal-of-spec : {M : Type 1} → statement M
-refusal-of-spec = tie.close (tie.spec returns free returns-2 returns-3)
+pub refusal-number-spec : {M : Type 1} → statement M
+refusal-number-spec = tie.close (tie.spec returns free returns-2 returns-3)

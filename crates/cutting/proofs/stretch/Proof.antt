@@ -5,8 +5,8 @@ use native.Mathlib.Omega.{arith}
 use lib.ListN.{take, drop}
 use denote.Ref.{now}
 use Rattle.octets.proofs.Free.{free}
-use Rattle.queue.proofs.between.Statement.{statement}
-use Rattle.queue.proofs.between.Tie as tie
+use Rattle.cutting.proofs.stretch.Statement.{statement}
+use Rattle.cutting.proofs.stretch.Tie as tie
 
 returns : tie.Need-returns
 returns c =
@@ -14,5 +14,5 @@ returns c =
     let none : 0 ≡ a .end - a .start = omega arith in
     c .part-after .ensures ∙ ap (λ (k : ℕ). take k (drop (a .start) (now (a .octets)))) none
 
-pub between-spec : {M : Type 1} → statement M
-between-spec = tie.close (tie.spec free returns free (λ c. search needs))
+pub stretch-spec : {M : Type 1} → statement M
+stretch-spec = tie.close (tie.spec free returns free (λ c. search needs))
