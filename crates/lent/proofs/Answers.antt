@@ -3,7 +3,7 @@
 use Prim.Native.Nat.{ℕ}
 use mathlib.Core.Path.{_≡_, refl, sym, ap, _∙_}
 use mathlib.Core.Logic.{_↔_}
-use mathlib.Core.Bool.{Bool, true, false, true≢false}
+use mathlib.Core.Bool.{Bool, true, false, cond}
 use mathlib.Core.List.{List}
 use lib.Dec.{leb}
 use lib.ListN.{length}
@@ -40,16 +40,9 @@ module _ {A B : Type 0} (fine refusal : A) where
 
 -- what `numbers` says of a row: the numbers stand there, or all is as it was
 module _ (row ns : List ℕ) {later : List ℕ} {r : Bool} (e : done r later ≡ ifRoom true false (leb (length ns) (length row)) (over row ns) row) where
-  pub had-room : r ≡ true → (leb (length ns) (length row) ≡ true) × (later ≡ over row ns)
-  had-room h = by (leb (length ns) (length row)) (ap (λ (t : Bool). done t later) (sym h) ∙ e)
+  pub room-said : (u : Bool) → r ≡ u → (leb (length ns) (length row) ≡ u) × (later ≡ cond u (over row ns) row)
+  room-said u h = by (leb (length ns) (length row)) (ap (λ (t : Bool). done t later) (sym h) ∙ e)
     where
-      by : (t : Bool) → done true later ≡ ifRoom true false t (over row ns) row → (t ≡ true) × (later ≡ over row ns)
-      by true f = (refl, ap (λ (x : Done Bool (List ℕ)). x .lent) f)
-      by false f = absurd (true≢false (ap (λ (x : Done Bool (List ℕ)). x .answer) f))
-
-  pub had-none : r ≡ false → (leb (length ns) (length row) ≡ false) × (later ≡ row)
-  had-none h = by (leb (length ns) (length row)) (ap (λ (t : Bool). done t later) (sym h) ∙ e)
-    where
-      by : (t : Bool) → done false later ≡ ifRoom true false t (over row ns) row → (t ≡ false) × (later ≡ row)
-      by true f = absurd (true≢false (sym (ap (λ (x : Done Bool (List ℕ)). x .answer) f)))
-      by false f = (refl, ap (λ (x : Done Bool (List ℕ)). x .lent) f)
+      by : (t : Bool) → done u later ≡ ifRoom true false t (over row ns) row → (t ≡ u) × (later ≡ cond u (over row ns) row)
+      by true f = let t : u ≡ true = ap (λ (x : Done Bool (List ℕ)). x .answer) f in rw t (refl, ap (λ (x : Done Bool (List ℕ)). x .lent) f)
+      by false f = let t : u ≡ false = ap (λ (x : Done Bool (List ℕ)). x .answer) f in rw t (refl, ap (λ (x : Done Bool (List ℕ)). x .lent) f)

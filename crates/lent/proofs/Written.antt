@@ -120,12 +120,21 @@ module _ (first : Written) (all : List ℕ) (x : Written) where
   unfolding append
   writes-all w e = sym (ap (append x) e) ∙ w .left
 
--- the pieces of n numbers, from number i on
-module _ (f : ℕ → List ℕ) (n i : ℕ) where
-  pub next-in-turn : i < n → inTurn f i (n - i) ≡ f i ++ inTurn f (i + 1) (n - (i + 1))
-  unfolding inTurn
-  next-in-turn h = let more : n - i ≡ suc (n - (i + 1)) = omega arith in rw (more, add-one i)
+-- the pieces of n numbers in turn, of which i are written
+pub record Turns (first : Written) (f : ℕ → List ℕ) (n : ℕ) (here : Written) (i : ℕ) : Type 0 where
+  pub turns : i ≤ n
+  pub rest : Writing first (inTurn f 0 n) here (inTurn f i (n - i))
 
-  pub none-in-turn : n ≤ i → inTurn f i (n - i) ≡ []
+module _ (first : Written) (f : ℕ → List ℕ) (n : ℕ) where
+  pub first-turn : Turns first f n first 0
+  first-turn = let all : n - 0 ≡ n = omega arith in record { turns = omega arith; rest = record { room = refl; left = rw all } }
+
+  pub next-turn : (x : Written) (i : ℕ) {y : Written} → Turns first f n x i → i < n → y ≡ append x (f i) → Turns first f n y (i + 1)
   unfolding inTurn
-  none-in-turn h = let none : n - i ≡ 0 = omega arith in rw none
+  next-turn x i t h e =
+      let more : n - i ≡ suc (n - (i + 1)) = omega arith in
+      record { turns = omega arith; rest = writes-on first _ x (f i) (inTurn f (i + 1) (n - (i + 1))) (t .rest) (rw (more, add-one i)) e }
+
+  pub last-turn : (x : Written) (i : ℕ) → Turns first f n x i → n ≤ i → x ≡ append first (inTurn f 0 n)
+  unfolding inTurn
+  last-turn x i t h = let none : n - i ≡ 0 = omega arith in writes-all first _ x (t .rest) (rw none)

@@ -14,6 +14,9 @@ use Rattle.octets.specs.Octets.{beAt, part, be, digits, AllOctets}
 use Rattle.octets.proofs.Laws.{part-length, part-all, part-behind, beAt-one, beAt-below, take-octets, drop-octets}
 use Rattle.octets.proofs.Digits.{beAt-digits}
 use Rattle.lent.specs.Rows.{inTurn}
+use Rattle.lent.specs.Written.{written, append}
+use Rattle.lent.proofs.Written.{append-whole, starts-over}
+use Rattle.lent.proofs.Rows.{over-whole}
 use Rattle.card.specs.declared.Card.{Card}
 use Rattle.shelf.specs.declared.Slot.{Slot}
 use Rattle.shelf.specs.declared.Shelf.{Shelf}
@@ -47,6 +50,12 @@ from-length s slot (suc more) =
 
 pub shelf-length : (s : Shelf) → length (asOctets s) ≡ 2624
 shelf-length s = from-length s 0 64
+
+-- written over those of another shelf
+pub written-over : (o : List ℕ) (s : Shelf) {out : List ℕ} {end : ℕ} → length o ≡ 2624 → written out end ≡ append (written o 0) (asOctets s) → out ≡ asOctets s
+written-over o s long e =
+    let same : length (asOctets s) ≡ length o = omega (arith, shelf-length s) in
+    starts-over o (asOctets s) (e ∙ append-whole o (asOctets s) (omega arith)) ∙ over-whole (asOctets s) o same
 
 -- ---- the empty shelf
 

@@ -1,5 +1,4 @@
 pub mod PartsWithin
-pub mod Kept
 pub mod RefusalsLeaveAll
 pub mod RecordTold
 pub mod Answered

@@ -3,6 +3,7 @@
 use Prim.Native.Nat.{ℕ, _≤_, _<_}
 use native.Mathlib.Omega.{arith}
 use mathlib.Core.Path.{sym, ap, ap₂, _∙_}
+use mathlib.Core.Bool.{true, false}
 use mathlib.Core.List.{[], _∷_}
 use lib.ListN.{length}
 use lib.Seq.{length-take-le}
@@ -12,7 +13,7 @@ use denote.Ref.{now}
 use Rattle.lent.specs.Lent.{doneBoth, over}
 use Rattle.lent.specs.Written.{written, append}
 use Rattle.lent.proofs.Written.{starts-within, starts-to, starts-over, starts-front, append-whole}
-use Rattle.lent.proofs.Answers.{had-room, had-none}
+use Rattle.lent.proofs.Answers.{room-said}
 use Rattle.report.specs.Texts.{listing}
 use Rattle.skogmund.specs.Entries.{noRoom, listingTold}
 use Rattle.skogmund.proofs.skogmund_list.Statement.{statement}
@@ -41,7 +42,7 @@ returns-2 c =
     let n = c .before .before .before in
     let e1 = n .before .before .before in
     let a = start-of (e1 .before) .args in
-    let h = had-none (now (a .length)) (e1 .before .whole-listing .result ∷ []) (n .numbers .ensures) (not-true _ (c .if2 .taken)) in
+    let h = room-said (now (a .length)) (e1 .before .whole-listing .result ∷ []) (n .numbers .ensures) false (not-true _ (c .if2 .taken)) in
     rw (le-leb _ _ (fits-text e1), h .0) (ap (doneBoth noRoom (now (a .text))) (h .1))
 
 array-share-prefix-room : tie.Need-array-share-prefix-room
@@ -59,7 +60,7 @@ returns-3 c =
     let e1 = n .before .before .before in
     let w = e1 .before in
     let a = start-of w .args in
-    let h = had-room (now (a .length)) (w .whole-listing .result ∷ []) (n .numbers .ensures) (not-false _ (e2 .if2 .left)) in
+    let h = room-said (now (a .length)) (w .whole-listing .result ∷ []) (n .numbers .ensures) true (not-false _ (e2 .if2 .left)) in
     let text = o .octets .ensures ∙ ap (append (written (now (a .text)) 0)) (starts-front _ _ (w .whole-listing .ensures)) ∙ append-whole (now (a .text)) (listing (now (a .queue))) (fits-text e1) in
     rw (le-leb _ _ (fits-text e1), h .0)
     (ap₂ (doneBoth 0) (starts-over _ _ text) (h .1 ∙ ap (λ (k : ℕ). over (now (a .length)) (k ∷ [])) (starts-to _ _ (w .whole-listing .ensures))))

@@ -3,12 +3,13 @@
 use native.Mathlib.Omega.{arith}
 use Prim.Native.Nat.{ℕ}
 use mathlib.Core.Path.{ap}
+use mathlib.Core.Bool.{true, false}
 use mathlib.Core.List.{List, [], _∷_}
 use denote.Ref.{now}
 use borrow.Author.Needs.{needs}
 use borrow.Author.Tests.{not-true, not-false}
 use Rattle.lent.specs.Lent.{done}
-use Rattle.lent.proofs.Answers.{had-room, had-none}
+use Rattle.lent.proofs.Answers.{room-said}
 use Rattle.skogmund.specs.Entries.{noRoom}
 use Rattle.skogmund.specs.Parts.{partTold}
 use Rattle.skogmund.proofs.PartsWithin.{part-within}
@@ -33,7 +34,7 @@ unfolding partTold
 returns c =
     let n = c .before .before .before in
     let f = n .before .before .before in
-    let h = had-none (now (start-of f .args .span)) (both f) (n .numbers2 .ensures) (not-true _ (c .if1 .taken)) in
+    let h = room-said (now (start-of f .args .span)) (both f) (n .numbers2 .ensures) false (not-true _ (c .if1 .taken)) in
     rw (h .0) (ap (done noRoom) (h .1))
 
 returns-2 : tie.Need-returns-2
@@ -41,7 +42,7 @@ unfolding partTold
 returns-2 c =
     let n = c .before .before .before in
     let f = n .before .before .before in
-    let h = had-room (now (start-of f .args .span)) (both f) (n .numbers2 .ensures) (not-false _ (c .if1 .left)) in
+    let h = room-said (now (start-of f .args .span)) (both f) (n .numbers2 .ensures) true (not-false _ (c .if1 .left)) in
     rw (h .0, ← f .before .span-of .ensures, ← f .first-octet .ensures) (ap (done 0) (h .1))
 
 pub skogmund-part-spec : {M : Type 1} → statement M

@@ -1,15 +1,16 @@
 -- `keep`: the shelf and the numbers, or 18.
 -- Assumes nothing.
 use mathlib.Core.Path.{ap, ap₂}
+use mathlib.Core.Bool.{true, false}
 use borrow.Author.Needs.{needs}
 use borrow.Author.Tests.{eq-eqb, ne-eqb, not-true, not-false}
 use denote.Ref.{now}
 use Rattle.octets.proofs.Free.{free}
 use Rattle.lent.specs.Lent.{doneBoth}
-use Rattle.lent.proofs.Answers.{had-room, had-none}
+use Rattle.lent.proofs.Answers.{room-said}
+use Rattle.shelf_octets.proofs.Laws.{written-over}
 use Rattle.skogmund.specs.Entries.{noRoom}
 use Rattle.skogmund.specs.Shelves.{keptIn}
-use Rattle.skogmund.proofs.Kept.{written-over}
 use Rattle.skogmund.proofs.shelves.keep.Statement.{statement}
 use Rattle.skogmund.proofs.shelves.keep.Tie as tie
 
@@ -23,7 +24,7 @@ returns-2 c =
     let n = c .before .before .before in
     let e1 = n .before .before in
     let a = e1 .before .before .before .before .args in
-    let h = had-none (now (a .places)) (now (a .numbers)) (n .numbers .ensures) (not-true _ (c .if2 .taken)) in
+    let h = room-said (now (a .places)) (now (a .numbers)) (n .numbers .ensures) false (not-true _ (c .if2 .taken)) in
     simp (eq-eqb _ _ (e1 .if1 .left), h .0) (ap (doneBoth noRoom (now (a .shelf))) (h .1))
 
 returns-3 : tie.Need-returns-3
@@ -34,7 +35,7 @@ returns-3 c =
     let n = e2 .before .before .before in
     let e1 = n .before .before in
     let a = e1 .before .before .before .before .args in
-    let h = had-room (now (a .places)) (now (a .numbers)) (n .numbers .ensures) (not-false _ (e2 .if2 .left)) in
+    let h = room-said (now (a .places)) (now (a .numbers)) (n .numbers .ensures) true (not-false _ (e2 .if2 .left)) in
     simp (eq-eqb _ _ (e1 .if1 .left), h .0)
     (ap₂ (doneBoth 0) (written-over (now (a .shelf)) (a .after) (e1 .if1 .left) (w .write .ensures)) (h .1))
 

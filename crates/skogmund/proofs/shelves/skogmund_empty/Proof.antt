@@ -6,10 +6,9 @@ use borrow.Author.Tests.{eq-eqb, ne-eqb}
 use denote.Ref.{now}
 use Rattle.octets.proofs.Free.{free}
 use Rattle.shelf_octets.specs.ShelfOctets.{asOctets}
-use Rattle.shelf_octets.proofs.Laws.{empty-zeros}
+use Rattle.shelf_octets.proofs.Laws.{empty-zeros, written-over}
 use Rattle.lent.specs.Lent.{done}
 use Rattle.skogmund.specs.Shelves.{emptied}
-use Rattle.skogmund.proofs.Kept.{written-over}
 use Rattle.skogmund.proofs.shelves.skogmund_empty.Statement.{statement}
 use Rattle.skogmund.proofs.shelves.skogmund_empty.Tie as tie
 

@@ -8,8 +8,8 @@ use Rattle.octets.proofs.Free.{free}
 use Rattle.shelf.specs.Shelves.{joinShelf}
 use Rattle.shelf_octets.specs.ShelfOctets.{asOctets}
 use Rattle.lent.specs.Lent.{done}
+use Rattle.shelf_octets.proofs.Laws.{written-over}
 use Rattle.skogmund.specs.Shelves.{joined}
-use Rattle.skogmund.proofs.Kept.{written-over}
 use Rattle.skogmund.proofs.shelves.skogmund_join.Statement.{statement}
 use Rattle.skogmund.proofs.shelves.skogmund_join.Tie as tie
 
