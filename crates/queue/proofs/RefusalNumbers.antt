@@ -12,6 +12,8 @@ use Rattle.layout.specs.declared.Refusal.{Refusal}
 use Rattle.layout.proofs.Outcomes.{either}
 use Rattle.layout.proofs.Refusals.{wider, placeless}
 use Rattle.shelf.specs.declared.Shelf.{Shelf}
+use Rattle.cutting.specs.Cuts.{cutOf}
+use Rattle.cutting.specs.Sections.{stretch}
 use Rattle.filing.specs.Filing.{Filing, refusedFiling, accepted, filingOf}
 use Rattle.filing.specs.Refused.{filingTable}
 use Rattle.filing.specs.declared.Issue.{Issue}
@@ -19,7 +21,7 @@ use Rattle.filing.specs.declared.Answer.{Answer}
 use Rattle.filing.specs.declared.Answer.the-variants.{Refused}
 use Rattle.filing.proofs.RefusalNumbers.{RefusesFiling, refuses-filing, RefusesAnswer, answer-refuses}
 use Rattle.queue.specs.Bodies.{bodyOf}
-use Rattle.queue.specs.Queues.{Sent, between, bodyFiling, recordFiling, recordFiled, cutOf, recordsFiled, fromStart, queueRefusal, acceptedQueue, refusedQueue, queueFiled}
+use Rattle.queue.specs.Queues.{Sent, bodyFiling, recordFiling, recordFiled, recordStep, recordsFiled, fromStart, queueRefusal, acceptedQueue, refusedQueue, queueFiled}
 use Rattle.queue.specs.Refused.{recordTable, queueTable}
 use Rattle.queue.specs.declared.Body.{Body}
 use Rattle.queue.specs.declared.Body.the-variants.{Five, NotFive}
@@ -36,11 +38,11 @@ body-refuses : (slot : ℕ) (issue : Issue) (s : List ℕ) (body : Body) → Ref
 unfolding bodyFiling
 body-refuses slot issue s NotFive = placeless recordTable 20 0 refl refl
 body-refuses slot issue s (Five e) =
-    let one = between s 0 (e .one) in
-    let three = between s (e .one) (e .three) in
-    let four = between s (e .three) (e .four) in
-    let five = between s (e .four) (e .five) in
-    let seven = between s (e .five) (length s) in
+    let one = stretch s 0 (e .one) in
+    let three = stretch s (e .one) (e .three) in
+    let four = stretch s (e .three) (e .four) in
+    let five = stretch s (e .four) (e .five) in
+    let seven = stretch s (e .five) (length s) in
     of-record (filingOf slot issue one three four five seven) (refuses-filing slot issue one three four five seven)
 
 pub record-refuses : (shelf : Shelf) (r : Sent) (x : Refusal) → recordFiled shelf r .answer ≡ Refused x → Listed recordTable x
@@ -57,9 +59,9 @@ RefusesQueue (refusedAll x) = Listed queueTable x
 
 refuses-queue : (shelf : Shelf) (q : List ℕ) → RefusesQueue (queueFiled shelf q .answer)
 unfolding queueFiled queueRefusal
-refuses-queue shelf q = by-tests (ltb 65536 (length q)) (cutOf q .whole)
+refuses-queue shelf q = by-tests (ltb 65536 (length q)) (cutOf recordStep q .whole)
   where
-    by-tests : (long whole : Bool) → RefusesQueue (cond (eqb (cond long 2 (cond whole 0 19)) 0) (acceptedQueue (recordsFiled (fromStart shelf) (cutOf q .records))) (refusedQueue shelf (cond long 2 (cond whole 0 19))) .answer)
+    by-tests : (long whole : Bool) → RefusesQueue (cond (eqb (cond long 2 (cond whole 0 19)) 0) (acceptedQueue (recordsFiled (fromStart shelf) (cutOf recordStep q .items))) (refusedQueue shelf (cond long 2 (cond whole 0 19))) .answer)
     by-tests true whole = placeless queueTable 2 0 refl refl
     by-tests false true = tt
     by-tests false false = placeless queueTable 19 0 refl refl
@@ -72,4 +74,4 @@ pub queue-number : (q : List ℕ) → oneOf (0 ∷ 2 ∷ 19 ∷ []) (queueRefusa
 unfolding queueRefusal
 queue-number q =
     let P : ℕ → Type 0 = λ n. oneOf (0 ∷ 2 ∷ 19 ∷ []) n ≡ true in
-    either P (ltb 65536 (length q)) refl (either P (cutOf q .whole) refl refl)
+    either P (ltb 65536 (length q)) refl (either P (cutOf recordStep q .whole) refl refl)
