@@ -17,25 +17,23 @@ mod shelves;
 mod unpacking;
 
 fn main() {
-    let mut line = io::large_buffer();
-    run(&mut line);
+    let mut room = input_buffer();
+    let n = io::read_full(libc::STDIN_FILENO, &mut room);
+    run(&room[..n]);
 }
 
-// One line after the other. The count only says that the work ends.
-fn run(line: &mut [u8]) {
+// One line after the other.
+fn run(text: &[u8]) {
     let mut shelves = Shelves {
         here: Shelf::empty(),
         other: Shelf::empty(),
     };
-    let mut count: usize = 0;
-    while count < 1000000 {
-        let next = lines::read_line(line);
-        let n = next.len;
-        shelves = run_line(&line[0..n], shelves);
-        if !next.more {
-            return;
-        }
-        count += 1;
+    let mut i: usize = 0;
+    while i < text.len() {
+        let end = lines::next(text, i, b'\n');
+        shelves = run_line(&text[i..end], shelves);
+        print::text(b"\n");
+        i = end + 1;
     }
 }
 
@@ -44,12 +42,6 @@ fn run_line(line: &[u8], shelves: Shelves) -> Shelves {
         return shelves;
     }
     let order = line[0];
-    let after = run_order(line, order, shelves);
-    print::text(b"\n");
-    after
-}
-
-fn run_order(line: &[u8], order: u8, shelves: Shelves) -> Shelves {
     if order == b'#' {
         print::text(line);
         return shelves;
@@ -76,12 +68,12 @@ fn run_case(line: &[u8], section: u8) {
 }
 
 fn run_unpacking(line: &[u8]) {
-    let behind_5 = lines::behind(line);
+    let behind_5 = lines::behind(line, b'/');
     let mut room_5 = section_buffer();
     let n5 = lines::section_in(line, &mut room_5);
     let mut room_7 = section_buffer();
     let n7 = lines::section_in(behind_5, &mut room_7);
-    let places = lines::decimal(lines::word(lines::behind(behind_5), 1));
+    let places = lines::decimal(lines::word(lines::behind(lines::behind(behind_5, b'/'), b' ')));
     let mut row = row_buffer();
     unpacking::show(
         octets::part_after(&room_5, 0, n5),
@@ -91,8 +83,14 @@ fn run_unpacking(line: &[u8]) {
     );
 }
 
-// Room for a section that is longer than any may be, and for a row of as many values as any has. Each `ensures` gives only
-// the length, which lending the array as a slice needs.
+// Room for the whole input, for a section that is longer than any may be, and for a row of as many values as any has. Each `ensures`
+// gives only the length, which lending the array as a slice needs.
+fn input_buffer() -> [u8; 2000000]
+    ensures { λ r. ⌜ 2000000 ≡ length r ⌝ }
+{
+    [0; 2000000]
+}
+
 fn section_buffer() -> [u8; 70000]
     ensures { λ r. ⌜ 70000 ≡ length r ⌝ }
 {

@@ -89,19 +89,19 @@ fn show_product(product: [u8; 27]) {
 }
 
 fn file(line: &[u8], order: u8, shelf: Shelf) -> Filed {
-    let r1 = lines::behind(line);
+    let r1 = lines::behind(line, b'/');
     let mut b1 = crate::section_buffer();
     let n1 = lines::section_in(r1, &mut b1);
-    let r3 = lines::behind(r1);
+    let r3 = lines::behind(r1, b'/');
     let mut b3 = crate::section_buffer();
     let n3 = lines::section_in(r3, &mut b3);
-    let r4 = lines::behind(r3);
+    let r4 = lines::behind(r3, b'/');
     let mut b4 = crate::section_buffer();
     let n4 = lines::section_in(r4, &mut b4);
     let s1 = octets::part_after(&b1, 0, n1);
     let s3 = octets::part_after(&b3, 0, n3);
     let s4 = octets::part_after(&b4, 0, n4);
-    file_with(line, lines::behind(r4), order, shelf, s1, s3, s4)
+    file_with(line, lines::behind(r4, b'/'), order, shelf, s1, s3, s4)
 }
 
 // The same, where section 5 is the first that `text` says.
@@ -117,14 +117,15 @@ fn file_with<'a>(
     let mut b5 = crate::section_buffer();
     let n5 = lines::section_in(text, &mut b5);
     let mut b7 = crate::section_buffer();
-    let n7 = lines::section_in(lines::behind(text), &mut b7);
+    let n7 = lines::section_in(lines::behind(text, b'/'), &mut b7);
     let s5 = octets::part_after(&b5, 0, n5);
     let s7 = octets::part_after(&b7, 0, n7);
-    let slot = lines::decimal(lines::word(line, 2));
+    let numbers = lines::behind(line, b' ');
+    let slot = lines::decimal(lines::word(numbers));
     if order == b'b' {
         return filing::bench_reload(shelf, slot, s1, s3, s4, s5, s7);
     }
-    let stored = lines::decimal(lines::word(lines::after_word(line, 2), 1));
+    let stored = lines::decimal(lines::word(lines::behind(numbers, b' ')));
     let StoredIssue::Is(issue) = filing::issue_from(stored as u64) else {
         let answer = Answer::Refused(Refusal::of(19, 0));
         return Filed { shelf, answer };

@@ -1,19 +1,11 @@
 //! What the program `cases` prints of what is asked, by the reference.
 use super::asked::{hex, Asked};
-use crate::reference::shelf::{Card, Filed, Shelf};
-use crate::reference::{self, explanation, listing, Outcome, Refusal, Span};
+use crate::reference::listing::fate;
+use crate::reference::shelf::{Card, Shelf};
+use crate::reference::{self, explanation, listing, Span};
 
 /// What each place of a row holds before unpacking.
 const HELD: u32 = 9;
-
-fn refused(refusal: Refusal) -> String {
-    let Refusal {
-        number,
-        section,
-        place,
-    } = refusal;
-    format!("refused {number} {section} {place}")
-}
 
 fn word(value: i64) -> String {
     match value {
@@ -31,7 +23,7 @@ pub fn row(values: &[i64]) -> String {
 fn values(section: u8, s: &[u8]) -> String {
     match reference::read(section, s) {
         Ok(values) => row(&values),
-        Err(refusal) => refused(refusal),
+        Err(refusal) => format!("refused {refusal}"),
     }
 }
 
@@ -105,18 +97,10 @@ fn unpacked(five: &[u8], seven: &[u8], size: usize) -> String {
         Ok(row) => written(&row),
         Err(refusal) => {
             let row = places(&vec![HELD; size]);
-            format!(" unpacked {} row{row}", refused(refusal))
+            format!(" unpacked refused {refusal} row{row}")
         }
     };
     values(7, seven) + &row
-}
-
-fn filed(answer: Outcome<Filed>) -> String {
-    match answer {
-        Ok(Filed::Kept) => "kept".to_string(),
-        Ok(Filed::Passed) => "passed".to_string(),
-        Err(refusal) => refused(refusal),
-    }
 }
 
 fn held((slot, card): (usize, &Card)) -> String {
@@ -159,11 +143,11 @@ impl Shelves {
             Asked::Section(section, s) => values(*section, s) + &parts(*section, s),
             Asked::Unpacking(five, seven, places) => unpacked(five, seven, *places),
             Asked::Filing(slot, issue, sections) => {
-                filed(self.here.file(*slot, *issue, borrowed(sections)))
+                fate(&self.here.file(*slot, *issue, borrowed(sections)))
             }
             // It names no issue.
             Asked::BenchReload(slot, sections) => {
-                filed(self.here.file(*slot, None, borrowed(sections)))
+                fate(&self.here.file(*slot, None, borrowed(sections)))
             }
             Asked::Empty => {
                 self.here = Shelf::empty();

@@ -40,24 +40,20 @@ pub fn listing(queue: &[u8]) -> String {
 
 const EXPLAINED: &str = "record slot issue fate\n";
 
-/// A record's line; an issue that is not named is a dash.
-fn record_line((place, (record, fate)): (usize, (&QueueRecord, &Outcome<Filed>))) -> String {
-    let issue = record
-        .issue
-        .map_or("-".to_string(), |issue| issue.to_string());
-    let fate = match fate {
+/// What became of a field or a record, in words.
+pub fn fate(filed: &Outcome<Filed>) -> String {
+    match filed {
         Ok(Filed::Kept) => "kept".to_string(),
         Ok(Filed::Passed) => "passed".to_string(),
-        Err(refusal) => {
-            let Refusal {
-                number,
-                section,
-                place,
-            } = refusal;
-            format!("refused {number} {section} {place}")
-        }
-    };
-    format!("{place} {} {issue} {fate}\n", record.slot)
+        Err(refusal) => format!("refused {refusal}"),
+    }
+}
+
+/// A record's line; an issue that is not named is a dash.
+fn record_line((place, (record, filed)): (usize, (&QueueRecord, &Outcome<Filed>))) -> String {
+    let named = record.issue.map(|issue| issue.to_string());
+    let issue = named.unwrap_or("-".to_string());
+    format!("{place} {} {issue} {}\n", record.slot, fate(filed))
 }
 
 /// What became of each record, from an empty shelf.

@@ -20,6 +20,8 @@ pub use listing::{explanation, listing};
 pub use packing::unpack;
 pub use parts::{part, Span};
 
+use std::fmt;
+
 /// The most octets that a section or a queue may have.
 pub const MOST_OCTETS: usize = 65_536;
 
@@ -43,6 +45,12 @@ impl Refusal {
     /// One that belongs to no section.
     pub fn of_none(number: u8) -> Refusal {
         Refusal::of_section(number, 0)
+    }
+}
+
+impl fmt::Display for Refusal {
+    fn fmt(&self, out: &mut fmt::Formatter) -> fmt::Result {
+        write!(out, "{} {} {}", self.number, self.section, self.place)
     }
 }
 
