@@ -14,7 +14,7 @@ mod bad_field;
 mod blocks;
 mod points;
 mod templates;
-pub mod views;
+mod views;
 
 pub use blocks::Common;
 pub use blocks::Earth;

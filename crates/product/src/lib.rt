@@ -13,7 +13,7 @@ use templates::total_of;
 mod bad_field;
 mod blocks;
 mod templates;
-pub mod views;
+mod views;
 
 pub use blocks::AerosolPart;
 pub use blocks::ClusterPart;

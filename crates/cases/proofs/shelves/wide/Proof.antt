@@ -1,7 +1,7 @@
 -- A number of 32 bits fits 64.
 -- Assumes nothing.
 use borrow.Author.Needs.{needs}
-use Rattle.text.proofs.Sizes.{wide-fits}
+use Rattle.octets.proofs.Signs.{wide-fits}
 use Rattle.cases.proofs.shelves.wide.Statement.{statement}
 use Rattle.cases.proofs.shelves.wide.Tie as tie
 
