@@ -12,14 +12,14 @@ pub(crate) fn show(line: &[u8]) {
 
 fn list(queue: &[u8]) {
     let mut text = report::listing_buffer();
-    let end = report::whole_listing(queue, &mut text);
-    print::text(&text[..end]);
+    let end = report::listing(queue, &mut text);
+    print::text(octets::part_after(&text, 0, end));
 }
 
 fn explain(queue: &[u8]) {
     let mut text = report::explanation_buffer();
-    let end = report::whole_explanation(queue, &mut text);
-    print_short(&text[..end]);
+    let end = report::explanation(queue, &mut text);
+    print_short(octets::part_after(&text, 0, end));
 }
 
 // Of more than 4,000 octets the first 1,000 and the last 200.
