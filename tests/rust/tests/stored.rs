@@ -1,7 +1,7 @@
 //! The stored cases. That the reference answers what it wrote itself shows nothing; so here it is held to what others say: an independent
 //! decoder's answers to 42 messages, document 01's listing, what was known beforehand of a case (which working the cases out compares), and
 //! what has to hold of every queue. That the files are as they would be written: `cases --check`.
-use skogmund_tests::cases::{self, decoded, Asked};
+use skogmund_tests::cases::{self, decoded, Asked, EXAMPLE_LISTING};
 use skogmund_tests::reference::queue::{counts, file_queue, Fates};
 use skogmund_tests::reference::shelf::Shelf;
 use skogmund_tests::reference::{explanation, listing, Outcome};
@@ -28,11 +28,8 @@ fn messages_of_an_independent_decoder() {
 #[test]
 fn the_listing_of_the_document() {
     let queue = stored("listing/stdin");
-    let of_the_document = "slot year month day hour minute second issue template\n\
-                           7 2024 3 7 0 0 0 40 8\n\
-                           kept 1 passed 1 refused 0\n";
-    assert_eq!(listing(&queue), of_the_document);
-    assert_eq!(stored("listing/stdout"), of_the_document.as_bytes());
+    assert_eq!(listing(&queue), EXAMPLE_LISTING);
+    assert_eq!(stored("listing/stdout"), EXAMPLE_LISTING.as_bytes());
     let explained = "record slot issue fate\n\
                      1 7 40 kept\n\
                      2 7 41 passed\n\

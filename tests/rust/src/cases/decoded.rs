@@ -383,7 +383,7 @@ pub fn add(cases: &mut Cases) {
     for message in messages() {
         let shows = format!("{}, as {} reads it", message.name, message.decoder);
         for (asked, printed) in message.answers() {
-            cases.decoded(&shows, asked, printed);
+            cases.push(&shows, asked, printed);
         }
     }
 }

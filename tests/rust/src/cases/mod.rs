@@ -17,6 +17,7 @@ mod section5;
 mod shelves;
 
 pub use asked::Asked;
+pub use queues::EXAMPLE_LISTING;
 
 use crate::reference::{explanation, listing};
 use answer::Shelves;
@@ -49,6 +50,7 @@ impl Cases {
         self.of = of;
     }
 
+    /// A case of which the whole line is known.
     fn push(&mut self, shows: &str, asked: Asked, printed: String) {
         let shows = format!("{}{shows}", self.of);
         self.list.push(Case {
@@ -71,11 +73,6 @@ impl Cases {
             "{shows}: the reference says {answer}"
         );
         self.add(shows, asked);
-    }
-
-    /// A case of which the decoder's answers tell the whole line.
-    fn decoded(&mut self, shows: &str, asked: Asked, printed: String) {
-        self.push(shows, asked, printed);
     }
 }
 
