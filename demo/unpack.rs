@@ -1,4 +1,4 @@
-// Unpacks document 01's example, octets 0C 44, three values of 5 bits, by way of the library: 1, 17, 2.
+// Unpacks an example of docs/RULES.md, octets 0C 44, three values of 5 bits, by way of the library: 1, 17, 2.
 #[link(name = "skogmund", kind = "static")]
 extern "C" {
     fn skogmund_unpack(five: *const u8, n5: usize, seven: *const u8, n7: usize, row: *mut u32, places: usize) -> u64;

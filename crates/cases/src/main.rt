@@ -85,10 +85,10 @@ fn run_unpacking(line: &[u8]) {
 
 // Room for the whole input, for a section that is longer than any may be, and for a row of as many values as any has. Each `ensures`
 // gives only the length, which lending the array as a slice needs.
-fn input_buffer() -> [u8; 2000000]
-    ensures { λ r. ⌜ 2000000 ≡ length r ⌝ }
+fn input_buffer() -> [u8; 3000000]
+    ensures { λ r. ⌜ 3000000 ≡ length r ⌝ }
 {
-    [0; 2000000]
+    [0; 3000000]
 }
 
 fn section_buffer() -> [u8; 70000]

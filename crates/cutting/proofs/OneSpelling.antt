@@ -71,9 +71,9 @@ more-back most n rest h others =
     let value : 128 + n % 128 - 128 + 128 * (n / 128) ≡ n = omega arith in
     rw long (rw top (rw others (rw some (ap (λ (k : ℕ). Found k (suc (length (spelled most (n / 128))))) value))))
 
-pub read-back : (most n : ℕ) (rest : List ℕ) → n < 128 ^ suc most → groups (suc most) (spelled (suc most) n ++ rest) ≡ Found n (length (spelled (suc most) n))
-read-back zero n rest h = last-back zero n rest h
-read-back (suc most) n rest h = by-size (decLe 128 n) (read-back most (n / 128) rest)
+pub spelled-back : (most n : ℕ) (rest : List ℕ) → n < 128 ^ suc most → groups (suc most) (spelled (suc most) n ++ rest) ≡ Found n (length (spelled (suc most) n))
+spelled-back zero n rest h = last-back zero n rest h
+spelled-back (suc most) n rest h = by-size (decLe 128 n) (spelled-back most (n / 128) rest)
   where
     by-size : Dec (128 ≤ n) → (n / 128 < 128 ^ suc most → groups (suc most) (spelled (suc most) (n / 128) ++ rest) ≡ Found (n / 128) (length (spelled (suc most) (n / 128)))) → groups (suc (suc most)) (spelled (suc (suc most)) n ++ rest) ≡ Found n (length (spelled (suc (suc most)) n))
     by-size (no l) others = last-back (suc most) n rest (omega arith)
@@ -99,7 +99,7 @@ no-two s t n i j o p e f =
 pub has-one : (n : ℕ) (rest : List ℕ) → n ≤ 4294967296 → leadingNumber (spelled 5 n ++ rest) ≡ Found n (length (spelled 5 n))
 unfolding leadingNumber
 has-one n rest h =
-    ap bounded (read-back 4 n rest (omega arith))
+    ap bounded (spelled-back 4 n rest (omega arith))
     ∙ ap (λ (t : Bool). cond t Malformed (Found n (length (spelled 5 n)))) (le-ltb 4294967296 n h)
 
 -- and that is the shortest: k groups of seven bits hold the numbers below 128 ^ k, and it has no more of them than are needed

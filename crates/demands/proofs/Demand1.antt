@@ -26,7 +26,8 @@ pub use Rattle.skogmund.proofs.Entries as skogmund-entries
 -- ".. and answers ..": for each answer type, any two answers that the contract allows for an input are one, with what was lent.
 pub use Rattle.demands.proofs.OneAnswer.{one-identification, one-grid, one-product, one-packing, one-data, one-field, one-unpacking, one-filing, one-answer, one-number, one-signed, one-time, one-written, one-done}
 -- ".. or refuses with a number from document 01.": its table lists the number for the section, and the place is 0 except with 8,
--- and then an octet that a section can have.
+-- and then an octet that a section can have. (`Refusal::of` makes the refusal that a caller names, and `fitting_refusal` hands the caller's
+-- number on: `fitting-told` is of the numbers that the tables list, which the readers' theorems show of theirs.)
 pub use Rattle.layout.proofs.Refusals.{head-told, opening-told, fitting-told}
 pub use Rattle.identification.proofs.RefusalNumbers.{identification-refuses}
 pub use Rattle.grid.proofs.RefusalNumbers.{grid-refuses}

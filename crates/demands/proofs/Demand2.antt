@@ -56,7 +56,7 @@ use Rattle.grid.proofs.ListShown.{those-very-octets, without-a-list, points-are
 use Rattle.product.specs.Blocks.{valuesIn as valuesIn₄}
 use Rattle.product.specs.Templates.{rangesAt, membersAt, fieldsIn, values₄}
 use Rattle.product.specs.Section4 as four
-use Rattle.product.specs.Views.{rangeOf, membersOf, coordinatesOf, strung}
+use Rattle.product.specs.Views.{rangeOf, membersOf, coordinatesOf, firstStrung}
 use Rattle.product.specs.Accepted.{Follows₄}
 use Rattle.product.specs.declared.Answer.{Answer as Answer₄}
 use Rattle.product.specs.declared.Answer.the-variants.{Read as Read₄}
@@ -84,7 +84,7 @@ use Rattle.field.specs.Field.{FieldOutcome, readField, onward, packedOutcome, t
 use Rattle.field.specs.Accepted.{FollowsField, AcceptedField}
 use Rattle.field.specs.declared.Answer.{Answer as FieldAnswer}
 use Rattle.field.specs.declared.Answer.the-variants.{Read as ReadField}
-use Rattle.field.specs.declared.Field.{Field as WholeField}
+use Rattle.field.specs.declared.WholeField.{WholeField}
 use Rattle.field.proofs.AcceptedExactlyWhen.{accepted-exactly-when as exactly-field}
 use Rattle.skogmund.specs.Parts.{partSpan, firstOctet}
 use Rattle.skogmund.proofs.PartsWithin.{part-within}
@@ -202,7 +202,7 @@ pub no-list-of-section-3 : (s : List ℕ) (number section place : ℕ) → three
 no-list-of-section-3 = refused-shows-none
 
 -- the time ranges, strung together, the members and the coordinates are the octets that the layout shows, in their order
-pub views-of-section-4 : (kind : PartKind) (timed : Bool) (s : List ℕ) → Follows₄ kind timed s → shownOf (after 0 (fieldsIn kind timed s)) s ≡ strung (rangeOf s) (rangesAt kind timed s) ∷ membersOf s ∷ coordinatesOf s ∷ []
+pub views-of-section-4 : (kind : PartKind) (timed : Bool) (s : List ℕ) → Follows₄ kind timed s → shownOf (after 0 (fieldsIn kind timed s)) s ≡ firstStrung (rangeOf s) (rangesAt kind timed s) ∷ membersOf s ∷ coordinatesOf s ∷ []
 views-of-section-4 = views-shown
 
 pub range-has-12 : (kind : PartKind) (timed : Bool) (s : List ℕ) → Follows₄ kind timed s → (k : ℕ) → k < rangesAt kind timed s → length (rangeOf s k) ≡ 12

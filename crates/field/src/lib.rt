@@ -11,7 +11,7 @@ use packing::Packing;
 use product::Product;
 
 // The four records. Of section 7 nothing is left to say: its number is 7, and its length follows from section 5.
-pub struct Field {
+pub struct WholeField {
     pub identification: Identification,
     pub grid: Grid,
     pub product: Product,
@@ -19,7 +19,7 @@ pub struct Field {
 }
 
 pub enum Answer {
-    Read(Field),
+    Read(WholeField),
     Refused(Refusal),
 }
 
@@ -69,7 +69,7 @@ fn read_packed(
     let packing::DataAnswer::Read(_) = seven else {
         return Answer::Refused(packing::data_refusal_of(seven));
     };
-    Answer::Read(Field {
+    Answer::Read(WholeField {
         identification,
         grid,
         product,

@@ -61,12 +61,7 @@ by-refusal section [] o p = refl
 by-refusal section (r ∷ rs) o p =
     with-one-more refusedBy o (firstRefusal section rs) (refusal (r .number) section (r .place)) (by-refusal section rs o (p .1)) (r .holds) (p .0)
 
--- it is 0 where none holds, and where it is 0 none does
-pub none-refusal : (section : ℕ) (rs : List Reason) → NoneHold rs → firstRefusal section rs ≡ noRefusal
-unfolding firstRefusal NoneHold
-none-refusal section [] h = refl
-none-refusal section (r ∷ rs) h = rw (h .0) (none-refusal section rs (h .1))
-
+-- where it is 0, none holds
 pub zero-none : (section : ℕ) (rs : List Reason) → Numbered rs → firstRefusal section rs .number ≡ 0 → NoneHold rs
 unfolding firstRefusal NoneHold Numbered
 zero-none section [] p e = tt

@@ -20,7 +20,7 @@ use Rattle.layout.proofs.Outcomes.{of-both}
 use Rattle.layout.proofs.Spans.{octets-after, after-within}
 use Rattle.product.specs.Templates.{templateOf, partEnd, rangesEnd, total, rangesAt, membersAt, coordinatesAt, fieldsIn, totalIn}
 use Rattle.product.specs.Section4.{outcome₄}
-use Rattle.product.specs.Views.{templateRead, rangeBy, membersBy, coordinatesBy, rangeSpan, memberSpan, coordinateSpan, rangeOf, membersOf, coordinatesOf, strung}
+use Rattle.product.specs.Views.{templateRead, rangeBy, membersBy, coordinatesBy, rangeSpan, memberSpan, coordinateSpan, rangeOf, membersOf, coordinatesOf, firstStrung}
 use Rattle.product.specs.Accepted.{Follows₄}
 use Rattle.product.specs.declared.templates.PartKind.{PartKind}
 use Rattle.product.specs.declared.templates.Template.{Template}
@@ -39,20 +39,20 @@ abbrev rangeShown : Template → List ℕ → ℕ → List ℕ
 rangeShown template s k = octetsIn (rangeBy template s k) s
 
 -- the first m time ranges, of 12 octets each, strung together
-ranges-strung : (kind : PartKind) (s : List ℕ) → partEnd kind + 12 + 12 * rangesAt kind true s ≤ length s → (m : ℕ) → m ≤ rangesAt kind true s → part s (partEnd kind + 12 + 1) (12 * m) ≡ strung (rangeShown (Listed kind true) s) m
-unfolding strung part rangeBy
+ranges-strung : (kind : PartKind) (s : List ℕ) → partEnd kind + 12 + 12 * rangesAt kind true s ≤ length s → (m : ℕ) → m ≤ rangesAt kind true s → part s (partEnd kind + 12 + 1) (12 * m) ≡ firstStrung (rangeShown (Listed kind true) s) m
+unfolding firstStrung part rangeBy
 ranges-strung kind s room zero h = refl
 ranges-strung kind s room (suc m) h =
     let one-more : 12 * suc m ≡ 12 * m + 12 = omega arith in
     let next : partEnd kind + 12 + 1 + 12 * m ≡ partEnd kind + 12 + 12 * m + 1 = omega arith in
     rw (one-more, part-add, next, part-take s (partEnd kind + 12 + 12 * m) 12 (omega arith), lt-ltb m (rangesAt kind true s) (omega arith), ranges-strung kind s room m (omega arith))
 
-ranges-by : (kind : PartKind) (timed : Bool) (s : List ℕ) → length s ≡ totalIn kind timed s → cond timed (part s (partEnd kind + 12 + 1) (12 * rangesAt kind timed s)) [] ≡ strung (rangeShown (Listed kind timed) s) (rangesAt kind timed s)
-unfolding total rangesEnd rangesAt strung
+ranges-by : (kind : PartKind) (timed : Bool) (s : List ℕ) → length s ≡ totalIn kind timed s → cond timed (part s (partEnd kind + 12 + 1) (12 * rangesAt kind timed s)) [] ≡ firstStrung (rangeShown (Listed kind timed) s) (rangesAt kind timed s)
+unfolding total rangesEnd rangesAt firstStrung
 ranges-by kind true s l = ranges-strung kind s (omega arith) (rangesAt kind true s) (omega arith)
 ranges-by kind false s l = refl
 
-views-by : (kind : PartKind) (timed : Bool) (s : List ℕ) → length s ≡ totalIn kind timed s → shownOf (after 0 (fieldsIn kind timed s)) s ≡ strung (rangeShown (Listed kind timed) s) (rangesAt kind timed s) ∷ octetsIn (membersBy (Listed kind timed) s) s ∷ octetsIn (coordinatesBy (Listed kind timed) s) s ∷ []
+views-by : (kind : PartKind) (timed : Bool) (s : List ℕ) → length s ≡ totalIn kind timed s → shownOf (after 0 (fieldsIn kind timed s)) s ≡ firstStrung (rangeShown (Listed kind timed) s) (rangesAt kind timed s) ∷ octetsIn (membersBy (Listed kind timed) s) s ∷ octetsIn (coordinatesBy (Listed kind timed) s) s ∷ []
 unfolding total membersBy coordinatesBy
 views-by kind timed s l =
     let end = rangesEnd kind timed (rangesAt kind timed s) in
@@ -66,10 +66,10 @@ views-by kind timed s l =
     )
 
 -- the three lists that the layout shows are the time ranges, one after the other, the member list and the coordinate list
-pub views-shown : (kind : PartKind) (timed : Bool) (s : List ℕ) → Follows₄ kind timed s → shownOf (after 0 (fieldsIn kind timed s)) s ≡ strung (rangeOf s) (rangesAt kind timed s) ∷ membersOf s ∷ coordinatesOf s ∷ []
+pub views-shown : (kind : PartKind) (timed : Bool) (s : List ℕ) → Follows₄ kind timed s → shownOf (after 0 (fieldsIn kind timed s)) s ≡ firstStrung (rangeOf s) (rangesAt kind timed s) ∷ membersOf s ∷ coordinatesOf s ∷ []
 views-shown kind timed s f =
     views-by kind timed s (follows-total kind timed s f)
-    ∙ ap (λ (t : Template). strung (rangeShown t s) (rangesAt kind timed s) ∷ octetsIn (membersBy t s) s ∷ octetsIn (coordinatesBy t s) s ∷ []) (sym (template-is kind timed s f))
+    ∙ ap (λ (t : Template). firstStrung (rangeShown t s) (rangesAt kind timed s) ∷ octetsIn (membersBy t s) s ∷ octetsIn (coordinatesBy t s) s ∷ []) (sym (template-is kind timed s f))
 
 -- each time range is whole
 pub range-whole : (kind : PartKind) (timed : Bool) (s : List ℕ) → Follows₄ kind timed s → (k : ℕ) → k < rangesAt kind timed s → length (rangeOf s k) ≡ 12

@@ -64,6 +64,6 @@ abbrev pub coordinatesOf : List ℕ → List ℕ
 coordinatesOf s = octetsIn (coordinateSpan s) s
 
 -- the first m of some lists, strung together
-unfoldable pub strung : (ℕ → List ℕ) → ℕ → List ℕ
-strung lists zero = []
-strung lists (suc m) = strung lists m ++ lists m
+unfoldable pub firstStrung : (ℕ → List ℕ) → ℕ → List ℕ
+firstStrung lists zero = []
+firstStrung lists (suc m) = firstStrung lists m ++ lists m

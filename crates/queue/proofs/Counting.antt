@@ -12,18 +12,18 @@ use Rattle.filing.specs.Filing.{Filing, refusedFiling, accepted, filedBy}
 use Rattle.filing.specs.declared.Answer.{Answer}
 use Rattle.filing.specs.declared.Answer.the-variants.{Kept, Passed, Refused}
 use Rattle.filing.proofs.SaidOfTheSlots.{said}
-use Rattle.queue.specs.Queues.{Sent, recordFiling, recordFiled, recordStep, counted, sumOf, oneMore, recordsFiled, fromStart, acceptedQueue, queueFiled}
+use Rattle.queue.specs.Queues.{Sent, recordFiling, recordFiled, recordStep, counted, threeTogether, oneMore, recordsFiled, fromStart, acceptedQueue, queueFiled}
 use Rattle.queue.specs.Counting.{answersOf, countedAll, AllSaid, Reports}
 use Rattle.queue.specs.declared.Counts.{Counts}
 use Rattle.queue.specs.declared.Progress.{Progress}
 use Rattle.queue.proofs.FiledQueues.{files}
 
-pub one-more : (n : Counts) (a : Answer) → sumOf (counted n a) ≡ sumOf n + 1
+pub one-more : (n : Counts) (a : Answer) → threeTogether (counted n a) ≡ threeTogether n + 1
 one-more n Kept = omega arith
 one-more n Passed = omega arith
 one-more n (Refused x) = omega arith
 
-pub sum : (rs : List Sent) (p : Progress) → sumOf (recordsFiled p rs .counts) ≡ sumOf (p .counts) + length rs
+pub sum : (rs : List Sent) (p : Progress) → threeTogether (recordsFiled p rs .counts) ≡ threeTogether (p .counts) + length rs
 unfolding recordsFiled
 sum [] p = omega arith
 sum (r ∷ rs) p =
@@ -59,5 +59,5 @@ queue-counts q s p e =
     record {
       counts = sym same ∙ counts-are rs (fromStart s);
       slots = all-said rs s;
-      sum = sym (ap sumOf same) ∙ sum rs (fromStart s) ∙ zero-add (length rs);
+      sum = sym (ap threeTogether same) ∙ sum rs (fromStart s) ∙ zero-add (length rs);
     }

@@ -7,7 +7,7 @@ use lib.ListN.{length}
 use Rattle.shelf.specs.declared.Shelf.{Shelf}
 use Rattle.filing.specs.Filing.{Said}
 use Rattle.filing.specs.declared.Answer.{Answer}
-use Rattle.queue.specs.Queues.{Sent, recordFiled, counted, sumOf, fromStart}
+use Rattle.queue.specs.Queues.{Sent, recordFiled, counted, threeTogether, fromStart}
 use Rattle.queue.specs.declared.Counts.{Counts}
 
 -- what the records are answered, in the queue's order, each with the shelf that those before it left
@@ -29,4 +29,4 @@ AllSaid s (r ∷ rs) = Said s (r .slot) (recordFiled s r .shelf) (recordFiled s 
 pub record Reports (shelf : Shelf) (records : List Sent) (n : Counts) : Type 0 where
   pub counts : n ≡ countedAll (fromStart shelf .counts) (answersOf shelf records)
   pub slots : length (shelf .slots) ≡ 64 → AllSaid shelf records
-  pub sum : sumOf n ≡ length records
+  pub sum : threeTogether n ≡ length records

@@ -79,8 +79,8 @@ counted n Passed = record { kept = n .kept; passed = n .passed + 1; refused = n 
 counted n (refusedRecord x) = record { kept = n .kept; passed = n .passed; refused = n .refused + 1 }
 
 -- the three together
-abbrev pub sumOf : Counts → ℕ
-sumOf n = n .kept + n .passed + n .refused
+abbrev pub threeTogether : Counts → ℕ
+threeTogether n = n .kept + n .passed + n .refused
 
 abbrev pub oneMore : Counts → Filed → Progress
 oneMore n x = record { shelf = x .shelf; counts = counted n (x .answer) }

@@ -4,7 +4,7 @@ ghost use Prim.Native.Nat.{_^_, _<_};
 ghost use Rattle.cutting.specs.Cuts.{cutOf};
 ghost use Rattle.queue.specs.Records.{recordOf};
 ghost use Rattle.queue.specs.Bodies.{bodyOf};
-ghost use Rattle.queue.specs.Queues.{recordIn, recordFiled, recordStep, sumOf, oneMore, recordsFiled, fromStart, queueRefusal, queueFiled};
+ghost use Rattle.queue.specs.Queues.{recordIn, recordFiled, recordStep, threeTogether, oneMore, recordsFiled, fromStart, queueRefusal, queueFiled};
 use cutting::Number;
 use filing::Answer;
 use filing::Filed;
@@ -199,7 +199,7 @@ pub fn refusal_number(queue: &[u8]) -> u8
 
 // One record more: it counts once, as it is answered.
 fn file_next(progress: Progress, octets: &[u8], head: Head) -> Progress
-    requires { ⌜ sumOf (progress .counts) < 2 ^ 63 ⌝ }
+    requires { ⌜ threeTogether (progress .counts) < 2 ^ 63 ⌝ }
     ensures { λ r. ⌜ r ≡ oneMore (progress .counts) (recordFiled (progress .shelf) (recordIn (now (octets .entry)) head)) ⌝ }
 {
     let filed = file_record(progress.shelf, octets, head);

@@ -32,7 +32,7 @@ use Rattle.queue.proofs.FiledQueues.{files}
 use Rattle.lent.specs.Written.{written, append, startsWith}
 use Rattle.lent.proofs.Written.{append-whole}
 use Rattle.text.proofs.Decimal.{decimal-short, decimal-most, whole-number-most}
-use Rattle.report.specs.Texts.{countsLine, refusedLine, templateIn, timeText, cardLine, slotLine, filedListing, listingOf, issueText, fate, recordLine, recordLines, filedExplanation, explanationOf, listing, explanation}
+use Rattle.report.specs.Texts.{countsLine, refusedLine, cardTemplate, timeText, cardLine, slotLine, filedListing, listingOf, issueText, fate, recordLine, recordLines, filedExplanation, explanationOf, listing, explanation}
 
 -- ---- the lines that both have
 
@@ -50,7 +50,7 @@ card-line : (slot : ℕ) (c : Card) → length (cardLine slot c) ≤ 190
 unfolding cardLine timeText
 card-line slot c =
     simp length-append
-    (omega (arith, decimal-most slot, whole-number-most (c .year), decimal-most (c .month), decimal-most (c .day), decimal-most (c .hour), decimal-most (c .minute), decimal-most (c .second), decimal-most (c .issue), decimal-most (templateIn c)))
+    (omega (arith, decimal-most slot, whole-number-most (c .year), decimal-most (c .month), decimal-most (c .day), decimal-most (c .hour), decimal-most (c .minute), decimal-most (c .second), decimal-most (c .issue), decimal-most (cardTemplate c)))
 
 slot-line : (slot : ℕ) (x : Slot) → length (slotLine slot x) ≤ 190
 unfolding slotLine

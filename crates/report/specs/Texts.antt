@@ -42,15 +42,15 @@ refusedLine x = ascii "refused " ++ ended (x .number)
 -- ---- the listing
 
 -- the template number: octets 8-9 of section 4, of which a card has 8-34
-abbrev pub templateIn : Card → ℕ
-templateIn c = beAt (c .product) 1 2
+abbrev pub cardTemplate : Card → ℕ
+cardTemplate c = beAt (c .product) 1 2
 
 unfoldable pub timeText : Card → List ℕ
 timeText c = spaced (c .month) ++ (spaced (c .day) ++ (spaced (c .hour) ++ (spaced (c .minute) ++ spaced (c .second))))
 
 unfoldable pub cardLine : ℕ → Card → List ℕ
 cardLine slot c =
-    spaced slot ++ (wholeNumber (c .year) ++ (ascii " " ++ (timeText c ++ (spaced (c .issue) ++ ended (templateIn c)))))
+    spaced slot ++ (wholeNumber (c .year) ++ (ascii " " ++ (timeText c ++ (spaced (c .issue) ++ ended (cardTemplate c)))))
 
 -- one line for a held slot
 unfoldable pub slotLine : ℕ → Slot → List ℕ

@@ -101,8 +101,8 @@ read-into-refuses section s row =
     by n (refused number section′ place) r e = inr r
     by n (read vs) r e = by-room n e (leb 64 (length row)) _
 
-pub within : (section : ℕ) (s : List ℕ) (row : List ℤ) → intoRow (sectionOutcome section s) row .answer .place ≤ lastPlace
-within section s row = by (read-into-refuses section s row)
+pub place-within : (section : ℕ) (s : List ℕ) (row : List ℤ) → intoRow (sectionOutcome section s) row .answer .place ≤ lastPlace
+place-within section s row = by (read-into-refuses section s row)
   where
     by : {x : Refusal} → (x ≡ noRefusal) ⊎ Listed (readTable section) x → x .place ≤ lastPlace
     by (inl e) = rw e (omega arith)

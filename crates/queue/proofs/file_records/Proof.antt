@@ -10,7 +10,7 @@ use borrow.Author.Needs.{needs}
 use Rattle.octets.proofs.Free.{free}
 use Rattle.cutting.specs.Cuts.{Cut, cutOf}
 use Rattle.cutting.proofs.Walks.{restAt}
-use Rattle.queue.specs.Queues.{Sent, recordIn, recordFiled, recordStep, recordsFiled, sumOf}
+use Rattle.queue.specs.Queues.{Sent, recordIn, recordFiled, recordStep, recordsFiled, threeTogether}
 use Rattle.queue.specs.declared.Progress.{Progress}
 use Rattle.queue.proofs.Counting.{one-more}
 use Rattle.queue.proofs.Cuts.{RecordAt, record-at, no-record-at, end-at}
@@ -20,7 +20,7 @@ use Rattle.queue.proofs.file_records.Tie as tie
 -- what is filed, and what is left to file, are together the queue's
 record Inv (queue : List ℕ) (first : Progress) (progress : Progress) (at : ℕ) : Type 0 where
   inside : at ≤ length queue
-  few : sumOf (progress .counts) ≤ at
+  few : threeTogether (progress .counts) ≤ at
   so-far : recordsFiled progress (cutOf recordStep (drop at queue) .items) ≡ recordsFiled first (cutOf recordStep queue .items)
 
 abbrev Inv-loop : tie.InvT-loop
@@ -67,7 +67,7 @@ loop-again c =
     let filed = recordFiled (l .loop .progress .shelf) sent in
     record {
       inside = on c .inside;
-      few = omega (arith, ap (λ (p : Progress). sumOf (p .counts)) (f .file-next .ensures), one-more (l .loop .progress .counts) (filed .answer), l .loop .inv .few, on c .more);
+      few = omega (arith, ap (λ (p : Progress). threeTogether (p .counts)) (f .file-next .ensures), one-more (l .loop .progress .counts) (filed .answer), l .loop .inv .few, on c .more);
       so-far = ap (λ (p : Progress). recordsFiled p (cutOf recordStep (drop (l .loop .at + c .before .before .before .head .given .0 .0 .end) q) .items)) (f .file-next .ensures)
           ∙ sym (ap (λ (x : Cut Sent). recordsFiled (l .loop .progress) (x .items)) (on c .cut))
           ∙ l .loop .inv .so-far;

@@ -8,7 +8,7 @@ use lib.IntN.{ℤ}
 use denote.Ref.{now}
 use Rattle.layout.specs.declared.Refusal.{Refusal}
 use Rattle.lent.specs.Lent.{Done, done}
-use Rattle.values.proofs.RecordRead.{within}
+use Rattle.values.proofs.RecordRead.{place-within}
 use Rattle.skogmund.specs.Entries.{codeOf, inOneNumber, recordTold}
 use Rattle.skogmund.proofs.skogmund_read.Statement.{statement}
 use Rattle.skogmund.proofs.skogmund_read.Tie as tie
@@ -19,7 +19,7 @@ as-number {row′} x e f = ap (λ (n : ℕ). done n row′) e ∙ ap inOneNumber
 code-requires : tie.Need-code-requires
 code-requires c κs =
     let a = c .before .before .before .before .args in
-    rw (ap (λ (x : Done Refusal (List ℤ)). x .answer) (c .before .read-into .ensures)) (within (a .section) (now (a .s)) (now (a .values)))
+    rw (ap (λ (x : Done Refusal (List ℤ)). x .answer) (c .before .read-into .ensures)) (place-within (a .section) (now (a .s)) (now (a .values)))
 
 returns : tie.Need-returns
 unfolding recordTold
