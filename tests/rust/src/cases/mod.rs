@@ -108,7 +108,10 @@ fn of_cases() -> [(String, Vec<u8>); 2] {
         stdout += &format!("{}\n", case.printed);
     }
     // What is behind that is not read (`input_buffer` of crates/cases).
-    assert!(stdin.len() <= 3_000_000, "crates/cases has no room for all of its cases");
+    assert!(
+        stdin.len() <= 3_000_000,
+        "crates/cases has no room for all of its cases"
+    );
     two_files("cases", stdin.into(), stdout)
 }
 
