@@ -9,8 +9,7 @@ use mathlib.Core.List.{List, [], _∷_}
 use lib.Dec.{leb}
 use Rattle.layout.specs.declared.Refusal.{Refusal}
 use Rattle.layout.specs.Refusals.{Row, row, Listed}
-use Rattle.identification.specs.Refused.{numbers₁}
-use Rattle.field.specs.Refused.{laterRows}
+use Rattle.filing.specs.Refused.{filedRows}
 use Rattle.skogmund.specs.Entries.{codeOf}
 
 -- none, or a refusal that the table lists
@@ -29,7 +28,7 @@ abbrev pub slotTable : List Row
 slotTable = row 0 (16 ∷ 18 ∷ []) ∷ []
 
 abbrev pub fileTable : List Row
-fileTable = row 0 (16 ∷ 18 ∷ 19 ∷ []) ∷ row 1 (17 ∷ numbers₁) ∷ laterRows
+fileTable = row 0 (16 ∷ 18 ∷ 19 ∷ []) ∷ filedRows
 
 abbrev pub fileQueueTable : List Row
 fileQueueTable = row 0 (2 ∷ 18 ∷ 19 ∷ []) ∷ []

@@ -2,10 +2,10 @@
 -- Assumes nothing.
 use Prim.Native.Nat.{ℕ}
 use mathlib.Core.List.{List, [], _∷_}
-use Rattle.layout.specs.Refusals.{Row, row}
+use Rattle.layout.specs.Refusals.{Row, row, sharedNumbers}
 
 abbrev pub numbers₃ : List ℕ
-numbers₃ = 1 ∷ 2 ∷ 3 ∷ 4 ∷ 5 ∷ 6 ∷ 7 ∷ 8 ∷ 10 ∷ 11 ∷ 12 ∷ 13 ∷ []
+numbers₃ = 10 ∷ 12 ∷ 13 ∷ sharedNumbers
 
 abbrev pub table₃ : List Row
 table₃ = row 3 numbers₃ ∷ []

@@ -2,10 +2,10 @@
 -- Assumes nothing.
 use Prim.Native.Nat.{ℕ}
 use mathlib.Core.List.{List, [], _∷_}
-use Rattle.layout.specs.Refusals.{Row, row}
+use Rattle.layout.specs.Refusals.{Row, row, sharedNumbers}
 
 abbrev pub numbers₁ : List ℕ
-numbers₁ = 1 ∷ 2 ∷ 3 ∷ 4 ∷ 5 ∷ 6 ∷ 7 ∷ 8 ∷ 11 ∷ []
+numbers₁ = sharedNumbers
 
 abbrev pub table₁ : List Row
 table₁ = row 1 numbers₁ ∷ []

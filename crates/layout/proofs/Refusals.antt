@@ -11,7 +11,7 @@ use lib.ListN.{length}
 use borrow.Author.Tests.{eqb-true, eq-eqb, leb-true, ltb-false}
 use Rattle.layout.specs.Fields.{Field, held, said, shown, allowed, FieldAt, badPlace, lowestBad, rawAt}
 use Rattle.layout.specs.Outcomes.{Outcome, refused, read, refusal, refusedBy, Reason, reason, firstOf, firstRefusal, noRefusal, andThen, headReasons, openingReasons, totalReasons, fittingReasons, templateReasons}
-use Rattle.layout.specs.Refusals.{Row, row, oneOf, numbersOf, hasPlace, lastPlace, Listed}
+use Rattle.layout.specs.Refusals.{Row, row, oneOf, numbersOf, hasPlace, lastPlace, Listed, headNumbers, openingNumbers, fittingNumbers, templateNumbers}
 use Rattle.layout.specs.declared.Refusal.{Refusal}
 use Rattle.layout.proofs.Outcomes.{NoneHold, either}
 use Rattle.layout.proofs.Ranges.{both-hold}
@@ -109,20 +109,6 @@ reason-refuses table section number holds o l p q =
     first-refuses table section (reason number holds ∷ []) o (reason-listed table section number holds [] l p tt) (λ none. q)
 
 -- ---- by the reasons that the sections share
-
--- 1 to 4, the numbers of every section's head; then 5
-abbrev pub headNumbers : List ℕ
-headNumbers = 1 ∷ 2 ∷ 3 ∷ 4 ∷ []
-
-abbrev pub openingNumbers : List ℕ
-openingNumbers = 5 ∷ headNumbers
-
--- once the template is known, beside the section's own
-abbrev pub fittingNumbers : List ℕ
-fittingNumbers = 8 ∷ 11 ∷ []
-
-abbrev pub templateNumbers : List ℕ
-templateNumbers = 7 ∷ fittingNumbers
 
 -- a number that the table lists for a section
 abbrev Has : List Row → ℕ → ℕ → Type 0

@@ -2,7 +2,7 @@
 -- Assumes nothing.
 use Prim.Native.Nat.{ℕ, _≤_}
 use mathlib.Core.Path.{_≡_}
-use mathlib.Core.List.{List, [], _∷_}
+use mathlib.Core.List.{List, [], _∷_, _++_}
 use mathlib.Core.Bool.{Bool, true, false, not, cond}
 use lib.Dec.{eqb}
 use Rattle.layout.specs.declared.Refusal.{Refusal}
@@ -45,3 +45,23 @@ numbersOf (r ∷ rs) section = cond (eqb section (r .section)) (r .numbers) (num
 pub record Listed (table : List Row) (x : Refusal) : Type 0 where
   pub listed : oneOf (numbersOf table (x .section)) (x .number) ≡ true
   pub placed : PlaceKept (x .number) (x .place)
+
+-- ---- the numbers that sections share
+
+-- 1 to 4, the numbers of every section's head; then 5
+abbrev pub headNumbers : List ℕ
+headNumbers = 1 ∷ 2 ∷ 3 ∷ 4 ∷ []
+
+abbrev pub openingNumbers : List ℕ
+openingNumbers = 5 ∷ headNumbers
+
+-- once the template is known, beside the section's own
+abbrev pub fittingNumbers : List ℕ
+fittingNumbers = 8 ∷ 11 ∷ []
+
+abbrev pub templateNumbers : List ℕ
+templateNumbers = 7 ∷ fittingNumbers
+
+-- of every section that has templates; 6 is the template's own
+abbrev pub sharedNumbers : List ℕ
+sharedNumbers = openingNumbers ++ (6 ∷ templateNumbers)

@@ -2,13 +2,13 @@
 -- Assumes nothing.
 use Prim.Native.Nat.{ℕ}
 use mathlib.Core.List.{List, [], _∷_}
-use Rattle.layout.specs.Refusals.{Row, row}
+use Rattle.layout.specs.Refusals.{Row, row, headNumbers, sharedNumbers}
 
 abbrev pub numbers₅ : List ℕ
-numbers₅ = 1 ∷ 2 ∷ 3 ∷ 4 ∷ 5 ∷ 6 ∷ 7 ∷ 8 ∷ 11 ∷ []
+numbers₅ = sharedNumbers
 
 abbrev pub numbers₇ : List ℕ
-numbers₇ = 1 ∷ 2 ∷ 3 ∷ 4 ∷ 15 ∷ []
+numbers₇ = 15 ∷ headNumbers
 
 abbrev pub table₅ : List Row
 table₅ = row 5 numbers₅ ∷ []

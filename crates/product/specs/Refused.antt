@@ -2,10 +2,10 @@
 -- Assumes nothing.
 use Prim.Native.Nat.{ℕ}
 use mathlib.Core.List.{List, [], _∷_}
-use Rattle.layout.specs.Refusals.{Row, row}
+use Rattle.layout.specs.Refusals.{Row, row, sharedNumbers}
 
 abbrev pub numbers₄ : List ℕ
-numbers₄ = 1 ∷ 2 ∷ 3 ∷ 4 ∷ 5 ∷ 6 ∷ 7 ∷ 8 ∷ 9 ∷ 11 ∷ []
+numbers₄ = 9 ∷ sharedNumbers
 
 abbrev pub table₄ : List Row
 table₄ = row 4 numbers₄ ∷ []

@@ -2,11 +2,10 @@
 -- Assumes nothing.
 use mathlib.Core.List.{List, [], _∷_}
 use Rattle.layout.specs.Refusals.{Row, row}
-use Rattle.identification.specs.Refused.{numbers₁}
-use Rattle.field.specs.Refused.{laterRows}
+use Rattle.filing.specs.Refused.{filedRows}
 
 abbrev pub recordTable : List Row
-recordTable = row 0 (16 ∷ 20 ∷ []) ∷ row 1 (17 ∷ numbers₁) ∷ laterRows
+recordTable = row 0 (16 ∷ 20 ∷ []) ∷ filedRows
 
 abbrev pub queueTable : List Row
 queueTable = row 0 (2 ∷ 19 ∷ []) ∷ []

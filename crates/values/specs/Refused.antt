@@ -4,7 +4,7 @@ use Prim.Native.Nat.{ℕ}
 use mathlib.Core.List.{List, [], _∷_}
 use mathlib.Core.Bool.{cond}
 use lib.Dec.{eqb}
-use Rattle.layout.specs.Refusals.{Row, row}
+use Rattle.layout.specs.Refusals.{Row, row, headNumbers}
 use Rattle.identification.specs.Refused.{numbers₁}
 use Rattle.grid.specs.Refused.{numbers₃}
 use Rattle.product.specs.Refused.{numbers₄}
@@ -21,5 +21,5 @@ readTable section =
     (cond (eqb section 3) (withRoom 3 numbers₃)
     (cond (eqb section 4) (withRoom 4 numbers₄)
     (cond (eqb section 5) (withRoom 5 numbers₅)
-    (cond (eqb section 7) (withRoom 7 (1 ∷ 2 ∷ 3 ∷ 4 ∷ []))
+    (cond (eqb section 7) (withRoom 7 headNumbers)
     (row section (4 ∷ []) ∷ [])))))
