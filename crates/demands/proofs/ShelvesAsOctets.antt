@@ -1,16 +1,18 @@
 -- Shelves as octets: each shelf that the entries make of octets is read back from its own octets, so that demand 3 holds of octets that are
--- stored or sent between two calls. Joining octets commutes, associates and is idempotent.
+-- stored or sent between two calls. Whatever octets there are say the shelf of a history; zeroed ones the empty shelf. Joining octets
+-- commutes, associates and is idempotent.
 -- Assumes nothing.
-use Prim.Native.Nat.{ℕ, _-_, _^_, _<_, _≤_}
+use Prim.Native.Nat.{ℕ, zero, suc, _+_, _-_, _*_, _^_, _<_, _≤_}
 use native.Mathlib.Omega.{arith}
-use mathlib.Core.Path.{_≡_, refl, subst⁻¹}
+use mathlib.Core.Path.{_≡_, refl, sym, ap, subst⁻¹, _∙_}
 use mathlib.Core.Bool.{Bool, true, false, cond}
 use mathlib.Core.List.{List, [], _∷_}
+use mathlib.Core.Logic.{_≢_}
 use lib.Dec.{eqb, ltb}
 use lib.IntN.{ℤ, pos, negsuc, natAbs, _*ℤ_}
-use lib.ListN.{drop}
+use lib.ListN.{drop, replicate}
 use lib.Signed.{mag}
-use Rattle.octets.specs.Octets.{beAt, signOf, realYear, AllOctets}
+use Rattle.octets.specs.Octets.{octet, beAt, signOf, realYear, AllOctets}
 use Rattle.octets.proofs.Laws.{beAt-below, part-length, take-octets, drop-octets}
 use Rattle.octets.proofs.Signs.{abs-add, abs-mul, sign-abs}
 use Rattle.layout.specs.Fields.{Value}
@@ -20,7 +22,7 @@ use Rattle.identification.specs.declared.Template.{Template}
 use Rattle.identification.specs.declared.Template.the-variants.{None as noTemplate, Calendar, Offset, CalendarAndOffset}
 use Rattle.field.specs.Field.{FieldOutcome, refusedField, readField, onward, packedOutcome, fieldOutcome}
 use Rattle.shelf.specs.declared.Shelf.{Shelf}
-use Rattle.shelf.specs.Shelves.{slotAt, joinShelf}
+use Rattle.shelf.specs.Shelves.{slotAt, emptyShelf, joinShelf}
 use Rattle.shelf.specs.History.{Keeps}
 use Rattle.shelf_octets.specs.ShelfOctets.{shelfIn, asOctets, joinOctets, Held, Stored}
 use Rattle.shelf_octets.proofs.Laws as laws
@@ -39,10 +41,12 @@ use Rattle.queue.specs.declared.Record.the-variants.{Whole}
 use Rattle.queue.specs.Records.{recordOf}
 use Rattle.queue.specs.Bodies.{bodyOf}
 use Rattle.queue.specs.Queues.{Sent, recordIn, bodyFiling, recordFiling, recordFiled, recordStep, oneMore, recordsFiled, fromStart, queueRefusal, refusedQueue, acceptedQueue, queueFiled}
-use Rattle.queue.specs.History.{History, start, file, queue, join, shelfOf, acceptedAt}
+use Rattle.queue.specs.History.{History, start, put, file, queue, join, shelfOf, acceptedAt}
 use Rattle.queue.proofs.Histories.{greatest-card}
+use Rattle.queue.proofs.HeldCards.{putIf, cardsPut, tidy-is-history}
+use Rattle.queue.proofs.QueueIsJoining.{queue-is-joining, queue-again}
 use Rattle.queue.proofs.Cuts.{stands, by-records}
-use Rattle.demands.specs.Histories.{Given}
+use Rattle.demands.specs.Histories.{Given, Leaves, Writes}
 
 -- ---- the card of a field that is accepted
 
@@ -185,6 +189,7 @@ read-after-joining = laws.join-read
 stored-history : (h : History) → Given h → Stored (shelfOf h)
 unfolding shelfOf Given
 stored-history start g = laws.stored-empty
+stored-history (put slot card h) g = laws.stored-put (shelfOf h) slot card (stored-history h (g .1)) (g .0)
 stored-history (file slot x h) g = stored-filed (shelfOf h) slot (x .issue) (x .s1) (x .s3) (x .s4) (x .s5) (x .s7) (stored-history h (g .2)) (g .0) (g .1)
 stored-history (queue q h) g = stored-queue (shelfOf h) q (stored-history h (g .1)) (g .0)
 stored-history (join h k) g = laws.stored-join (shelfOf h) (shelfOf k) (stored-history h (g .0)) (stored-history k (g .1))
@@ -192,8 +197,49 @@ stored-history (join h k) g = laws.stored-join (shelfOf h) (shelfOf k) (stored-h
 pub history-read-back : (h : History) → Given h → shelfIn (asOctets (shelfOf h)) ≡ shelfOf h
 history-read-back h g = laws.read-back (shelfOf h) (stored-history h g)
 
-pub octets-greatest-card : (h : History) → Given h → (slot : ℕ) → slot < 64 → Keeps (acceptedAt slot h) (slotAt (shelfIn (asOctets (shelfOf h))) slot)
-octets-greatest-card h g slot l = subst⁻¹ (λ (s : Shelf). Keeps (acceptedAt slot h) (slotAt s slot)) (history-read-back h g) (greatest-card h slot l)
+-- ---- which octets a history leaves
+
+-- those in which its shelf is written
+pub writes : (h : History) (o : List ℕ) → Given h → o ≡ asOctets (shelfOf h) → Writes h o
+writes h o g e = record { leaves = record { given = g; says = ap shelfIn e ∙ history-read-back h g }; written = e }
+
+-- what such octets say of a slot
+pub octets-greatest-card : (h : History) (o : List ℕ) → Leaves h o → (slot : ℕ) → slot < 64 → Keeps (acceptedAt slot h) (slotAt (shelfIn o) slot)
+octets-greatest-card h o l slot below = subst⁻¹ (λ (s : Shelf). Keeps (acceptedAt slot h) (slotAt s slot)) (l .says) (greatest-card h slot below)
+
+-- zeroed memory is the empty shelf
+pub zeroed-writes : Writes start (replicate 2624 0)
+unfolding shelfOf Given
+zeroed-writes = writes start (replicate 2624 0) tt (sym laws.empty-zeros)
+
+-- and so are octets of which none is 1 where a slot starts, whatever the others are
+pub none-held-leaves : (o : List ℕ) → ((slot : ℕ) → slot < 64 → octet o (41 * slot + 1) ≢ 1) → Leaves start o
+unfolding shelfOf Given
+none-held-leaves o d = record { given = tt; says = laws.none-held o d }
+
+-- whatever octets there are say the shelf of a history, in which each held card was put
+given-cards : (s : Shelf) → Stored s → (n : ℕ) → n ≤ 64 → Given (cardsPut n s)
+unfolding Given cardsPut
+given-cards s t zero h = tt
+given-cards s t (suc n) h = by-held (slotAt s n .held) (given-cards s t n (omega arith))
+  where
+    by-held : (b : Bool) → Given (cardsPut n s) → Given (putIf b n (slotAt s n) (cardsPut n s))
+    by-held true g = (t .cards n (omega arith), g)
+    by-held false g = g
+
+pub any-octets-leave : (o : List ℕ) → AllOctets o → (h : History) × Leaves h o
+any-octets-leave o a = (
+  cardsPut 64 (shelfIn o),
+  record { given = given-cards (shelfIn o) (laws.stored-in o a) 64 (omega arith); says = sym (tidy-is-history (shelfIn o) (laws.tidy-in o)) },
+)
+
+-- ---- filing a queue to a shelf that is read from octets, whatever they are
+
+pub octets-queue-is-joining : (o q : List ℕ) → queueFiled (shelfIn o) q .shelf ≡ joinShelf (shelfIn o) (queueFiled emptyShelf q .shelf)
+octets-queue-is-joining o q = queue-is-joining q (shelfIn o) (laws.tidy-in o)
+
+pub octets-queue-again : (o q : List ℕ) → queueFiled (queueFiled (shelfIn o) q .shelf) q .shelf ≡ queueFiled (shelfIn o) q .shelf
+octets-queue-again o q = queue-again q (shelfIn o) (laws.tidy-in o)
 
 -- ---- joining octets
 
