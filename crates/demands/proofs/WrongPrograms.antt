@@ -2,7 +2,7 @@
 -- edits that try them and others.)
 -- Assumes nothing.
 use Prim.Native.Nat.{ℕ, _+_, _-_, _<_}
-use mathlib.Core.Path.{_≡_, refl, sym, ap, subst, _∙_}
+use mathlib.Core.Path.{_≡_, refl, sym, ap, subst, subst⁻¹, _∙_}
 use mathlib.Core.Bool.{true, false}
 use mathlib.Core.List.{List, [], List·Memᴰ}
 use mathlib.Core.Logic.{_≢_}
@@ -35,15 +35,17 @@ use Rattle.queue.proofs.RecordsAsCards.{record-there, records-take}
 use Rattle.demands.proofs.Demand3.{filing-says}
 
 -- ---- a shelf that stays empty or unchanged: once a card was put to a slot that is there, or accepted, the shelf is not the empty one; nor is it the
--- one before, where the slot held less. An empty slot holds less than every card
-
-pub stays-empty : (s : Shelf) (slot : ℕ) (c : Card) (r : PutDone) → length (s .slots) ≡ 64 → slot < 64 → r ≡ putOf s slot c → r .shelf ≢ emptyShelf
-stays-empty s slot c r long l e z = not-empty (putShelf s slot c) slot c l (put-takes s slot c long l) (sym (ap (λ (y : PutDone). y .shelf) e) ∙ z)
+-- one before, where the slot held less. An empty slot holds less than every card (`held-beats-empty`)
 
 -- what holds of a shelf whose slot holds no less than a card
 moved : (s after : Shelf) (slot : ℕ) (card : Card) → slot < 64 → lessSlot (slotAt after slot) (holding card) ≡ false
     → (lessSlot (slotAt s slot) (holding card) ≡ true → after ≢ s) × (after ≢ emptyShelf)
 moved s after slot card there h = ((λ less. another-shelf s after slot card less h), not-empty after slot card there h)
+
+pub put-shelf-stays : (s : Shelf) (slot : ℕ) (card : Card) (r : PutDone) → length (s .slots) ≡ 64 → slot < 64 → r ≡ putOf s slot card
+    → (lessSlot (slotAt s slot) (holding card) ≡ true → r .shelf ≢ s) × (r .shelf ≢ emptyShelf)
+put-shelf-stays s slot card r long there e =
+    moved s (r .shelf) slot card there (subst⁻¹ (λ (y : PutDone). lessSlot (slotAt (y .shelf) slot) (holding card) ≡ false) e (put-takes s slot card long there))
 
 moved-by : (s : Shelf) (slot : ℕ) (f : Filing) (card : Card) (r : Filed) → length (s .slots) ≡ 64 → SlotThere slot f → f ≡ accepted card → r ≡ filedBy s slot f
     → (lessSlot (slotAt s slot) (holding card) ≡ true → r .shelf ≢ s) × (r .shelf ≢ emptyShelf)
@@ -63,14 +65,21 @@ pub record-shelf-stays : (s : Shelf) (x : Sent) (card : Card) (r : Filed) → le
 unfolding recordFiled
 record-shelf-stays s x card r long = moved-by s (x .slot) (recordFiling x) card r long (record-there x)
 
--- a queue that is filed, and one of its records, whatever the others are
-pub queue-shelf-stays : (s : Shelf) (q : List ℕ) (r : QueueFiled) (n : Counts) (x : Sent) (card : Card) → length (s .slots) ≡ 64 → r ≡ queueFiled s q → r .answer ≡ filedAll n
-    → List·Memᴰ x (cutOf recordStep q .items) → recordFiling x ≡ accepted card
-    → (lessSlot (slotAt s (x .slot)) (holding card) ≡ true → r .shelf ≢ s) × (r .shelf ≢ emptyShelf)
-queue-shelf-stays s q r n x card long e f m a =
+-- ---- a queue filing that handles the first record only: of each record of a queue that is filed, if it is accepted, the slot then holds no less than
+-- its card
+
+pub first-record-only : (s : Shelf) (q : List ℕ) (r : QueueFiled) (n : Counts) (x : Sent) (card : Card) → length (s .slots) ≡ 64 → r ≡ queueFiled s q → r .answer ≡ filedAll n
+    → List·Memᴰ x (cutOf recordStep q .items) → recordFiling x ≡ accepted card → lessSlot (slotAt (r .shelf) (x .slot)) (holding card) ≡ false
+first-record-only s q r n x card long e f m a =
     let all = files q s (record { shelf = r .shelf; counts = n }) (sym e ∙ ap (λ (a : QueueAnswer). record { shelf = r .shelf; answer = a }) f) in
     let after : recordsFiled (fromStart s) (cutOf recordStep q .items) .shelf ≡ r .shelf = ap (λ (p : Progress). p .shelf) (all .records) in
-    moved s (r .shelf) (x .slot) card (subst (SlotThere (x .slot)) a (record-there x)) (rw after at (records-take (cutOf recordStep q .items) (fromStart s) x card long m a))
+    rw after at (records-take (cutOf recordStep q .items) (fromStart s) x card long m a)
+
+-- so its shelf does not stay either
+pub queue-shelf-stays : (s : Shelf) (q : List ℕ) (r : QueueFiled) (n : Counts) (x : Sent) (card : Card) → length (s .slots) ≡ 64 → r ≡ queueFiled s q → r .answer ≡ filedAll n
+    → List·Memᴰ x (cutOf recordStep q .items) → recordFiling x ≡ accepted card → (lessSlot (slotAt s (x .slot)) (holding card) ≡ true → r .shelf ≢ s) × (r .shelf ≢ emptyShelf)
+queue-shelf-stays s q r n x card long e f m a =
+    moved s (r .shelf) (x .slot) card (subst (SlotThere (x .slot)) a (record-there x)) (first-record-only s q r n x card long e f m a)
 
 -- ---- a lent shelf that stays as it was: that is not `Kept`
 
