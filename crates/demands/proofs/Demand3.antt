@@ -50,7 +50,7 @@ use Rattle.queue.specs.declared.QueueFiled.{QueueFiled}
 use Rattle.queue.specs.History.{FiledField, History, start, file, queue, join, shelfOf, acceptedAt, acceptedIn, acceptedOf}
 use Rattle.queue.proofs.Histories.{tidy, greatest-card as greatest, any-order as in-any-order}
 use Rattle.queue.proofs.Spelled.{cut-spelled, spelled-again, all-spellable, accepted-exactly-when, filed-spelled}
-use Rattle.queue.proofs.FiveSections.{five-filed, five-or-20}
+use Rattle.queue.proofs.FiveSections.{five-filed, five-or-20, record-accepted as accepted-record}
 use Rattle.queue.proofs.Counting.{queue-counts}
 use Rattle.queue.proofs.QueueIsJoining.{queue-is-joining as is-joining}
 use Rattle.queue.proofs.RecordsAsCards.{as-if-never-sent}
@@ -133,6 +133,9 @@ record-of-five slot issue s1 s3 s4 s5 s7 z1 z3 z4 z5 z7 = five-filed s1 s3 s4 s5
 
 pub record-five-or-20 : (r : Sent) → ((x : FiveSections (r .body)) × (recordFiling r ≡ filingOf (r .slot) (r .issue) (x .s1) (x .s3) (x .s4) (x .s5) (x .s7))) ⊎ ((FiveSections (r .body) → ⊥) × (recordFiling r ≡ refusedFiling 20 0 0))
 record-five-or-20 = five-or-20
+
+pub record-accepted : (r : Sent) → ((card : Card) × (recordFiling r ≡ accepted card)) ↔ ((x : FiveSections (r .body)) × FollowsFiling (r .slot) (x .s1) (x .s3) (x .s4) (x .s5) (x .s7))
+record-accepted = accepted-record
 
 -- ---- a card: the real reference time, the issue and octets 8-34 of section 4, by octet numbers; 17 looks at octet 24
 

@@ -4,7 +4,7 @@ use Prim.Native.Nat.{ℕ, _+_, _-_, _≤_}
 use native.Mathlib.Nat.{zero-add}
 use native.Mathlib.Omega.{arith}
 use mathlib.Core.Path.{_≡_, refl, sym, ap, ap₂, subst, _∙_}
-use mathlib.Core.Logic.{_⊎_, inl, inr, ⊎-elim}
+use mathlib.Core.Logic.{_↔_, _⊎_, inl, inr, ⊎-elim}
 use mathlib.Core.Bool.{Bool, true, false, cond}
 use mathlib.Core.List.{List, [], _∷_, _++_, append-assoc, append-nil}
 use lib.Dec.{eqb}
@@ -14,7 +14,10 @@ use borrow.Author.Tests.{ne-eqb, eq-eqb, eqb-true, eqb-false}
 use Rattle.cutting.specs.Cuts.{Step}
 use Rattle.cutting.specs.Sections.{stretch, sectionStep, endOf, endAfter, Sized}
 use Rattle.cutting.proofs.Sections.{sized-spells, found-sized, EndsAfter, ends-or-none}
-use Rattle.filing.specs.Filing.{Filing, refusedFiling, filingOf}
+use Rattle.card.specs.declared.Card.{Card}
+use Rattle.filing.specs.Filing.{Filing, refusedFiling, accepted, filingOf}
+use Rattle.filing.specs.Accepted.{FollowsFiling}
+use Rattle.filing.proofs.FiledExactlyWhen.{filed-exactly-when}
 use Rattle.filing.specs.declared.Issue.{Issue}
 use Rattle.queue.specs.Bodies.{further, bodyOf}
 use Rattle.queue.specs.Queues.{Sent, bodyFiling, recordFiling}
@@ -199,3 +202,21 @@ five-or-20 r = by (bodyOf (r .body)) refl
       ap filed-by f,
     )
     by (Five e) f = let x = cut-five (r .body) e f in inl (x .0, ap filed-by f ∙ x .1 (r .slot) (r .issue))
+
+-- so a record is accepted exactly when its body is five sections with which a field is filed to its slot
+pub record-accepted : (r : Sent) → ((card : Card) × (recordFiling r ≡ accepted card)) ↔ ((x : FiveSections (r .body)) × FollowsFiling (r .slot) (x .s1) (x .s3) (x .s4) (x .s5) (x .s7))
+record-accepted r = (
+  (λ a.
+      ⊎-elim
+      (λ x. (x .0, filed-exactly-when (r .slot) (r .issue) (x .0 .s1) (x .0 .s3) (x .0 .s4) (x .0 .s5) (x .0 .s7) .0 (a .0, sym (x .1) ∙ a .1)))
+      (λ n. let twenty = sym (n .1) ∙ a .1 in let z : _≡_ {A = ℕ} 0 1 = cc in absurd (omega arith))
+      (five-or-20 r)),
+  (λ y.
+      let x = y .0 in
+      let card = filed-exactly-when (r .slot) (r .issue) (x .s1) (x .s3) (x .s4) (x .s5) (x .s7) .1 (y .1) in (
+        card .0,
+        ap (λ (b : List ℕ). recordFiling (record { slot = r .slot; issue = r .issue; body = b })) (x .strung)
+            ∙ five-filed (x .s1) (x .s3) (x .s4) (x .s5) (x .s7) (x .sized₁) (x .sized₃) (x .sized₄) (x .sized₅) (x .sized₇) (r .slot) (r .issue)
+            ∙ card .1,
+      )),
+)
