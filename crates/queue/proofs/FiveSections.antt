@@ -6,12 +6,11 @@ use native.Mathlib.Omega.{arith}
 use mathlib.Core.Path.{_≡_, refl, sym, ap, ap₂, subst, _∙_}
 use mathlib.Core.Logic.{_↔_, _⊎_, inl, inr, ⊎-elim}
 use mathlib.Core.Bool.{Bool, true, false, cond}
-use mathlib.Core.List.{List, [], _∷_, _++_, append-assoc, append-nil}
+use mathlib.Core.List.{List, [], _++_, append-assoc, append-nil}
 use lib.Dec.{eqb}
 use lib.ListN.{length, take, drop, length-append, take-append-drop}
 use lib.Seq.{take-append-seam, drop-at, drop-drop, drop-length}
 use borrow.Author.Tests.{ne-eqb, eq-eqb, eqb-true, eqb-false}
-use Rattle.cutting.specs.Cuts.{Step}
 use Rattle.cutting.specs.Sections.{stretch, sectionStep, endOf, endAfter, Sized}
 use Rattle.cutting.proofs.Sections.{sized-spells, found-sized, EndsAfter, ends-or-none}
 use Rattle.card.specs.declared.Card.{Card}
@@ -19,7 +18,7 @@ use Rattle.filing.specs.Filing.{Filing, refusedFiling, accepted, filingOf}
 use Rattle.filing.specs.Accepted.{FollowsFiling}
 use Rattle.filing.proofs.FiledExactlyWhen.{filed-exactly-when}
 use Rattle.filing.specs.declared.Issue.{Issue}
-use Rattle.queue.specs.Bodies.{further, bodyOf}
+use Rattle.queue.specs.Bodies.{bodyOf}
 use Rattle.queue.specs.Queues.{Sent, bodyFiling, recordFiling}
 use Rattle.queue.specs.Spelled.{backToBack, FiveSections}
 use Rattle.queue.specs.declared.Ends.{Ends}

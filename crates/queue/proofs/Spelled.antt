@@ -26,7 +26,6 @@ use Rattle.queue.specs.Records.{bodied, recordOf}
 use Rattle.queue.specs.Queues.{Sent, recordIn, recordItem, recordStep, recordsFiled, fromStart, queueRefusal, acceptedQueue, queueFiled}
 use Rattle.queue.specs.Spelled.{storedOf, spelledRecord, spelledAll, Spellable, AllSpellable}
 use Rattle.queue.specs.declared.Head.{Head}
-use Rattle.queue.specs.declared.Record.{Record}
 use Rattle.queue.specs.declared.Record.the-variants.{Whole, Broken}
 use Rattle.queue.proofs.Cuts.{Stands, stands, by-record, records-advance, records-look-no-further}
 
@@ -159,7 +158,8 @@ module _ (s : List ℕ) (x : Sent) (end : ℕ) (e : recordStep s ≡ item x end)
       ∙ ap (λ (n : ℕ). take n s) (sym ends-there)
     where
       parts : (a b c d : ℕ) → take (a + b + c + d) s ≡ take a s ++ (take b (drop a s) ++ (take c (drop (a + b) s) ++ take d (drop (a + b + c) s)))
-      parts a b c d = rw (take-add, take-add, take-add, append-assoc, append-assoc)
+      parts a b c d =
+          rw (take-add, take-add, take-add) (append-assoc (take a s ++ take b (drop a s)) (take c (drop (a + b) s)) (take d (drop (a + b + c) s)) ∙ append-assoc (take a s) (take b (drop a s)) (take c (drop (a + b) s) ++ take d (drop (a + b + c) s)))
 
 -- written again they are the queue, and each can be written
 pub spelled-again : (q : List ℕ) → AllOctets q → cutOf recordStep q .whole ≡ true → spelledAll (cutOf recordStep q .items) ≡ q
