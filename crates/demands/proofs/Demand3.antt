@@ -28,8 +28,8 @@ use Rattle.shelf.specs.Shelves.{emptyShelf, slotAt, joinShelf}
 use Rattle.shelf.specs.History.{Keeps}
 use Rattle.shelf.specs.declared.Shelf.{Shelf}
 use Rattle.shelf.proofs.Laws.{shelf-join}
-use Rattle.filing.specs.Filing.{Filing, refusedFiling, accepted, issueOf, cardOf, cardAt, foreignCalendar, foreignAt, filingOf, filedBy, filedOf, Said}
-use Rattle.filing.specs.Accepted.{FollowsFiling, AcceptedFiling}
+use Rattle.filing.specs.Filing.{Filing, refusedFiling, accepted, issueOf, cardOf, cardAt, foreignCalendar, filingOf, filedBy, filedOf, Said}
+use Rattle.filing.specs.Accepted.{Gregorian, FollowsFiling, AcceptedFiling}
 use Rattle.filing.specs.declared.Issue.{Issue}
 use Rattle.filing.proofs.CardOctets.{card-octets}
 use Rattle.filing.proofs.FiledExactlyWhen.{filed-exactly-when, filed-card, answered-exactly-when}
@@ -140,7 +140,7 @@ record-accepted = accepted-record
 -- ---- a card: the real reference time, the issue and octets 8-34 of section 4, by octet numbers; 17 looks at octet 24
 
 pub card-by-octets : (s1 : List ℕ) (one : List Value) (issue : ℕ) (s4 : List ℕ) → outcome₁ s1 ≡ read one →
-    (template : Template) × Follows₁ template s1 × (cardOf one issue s4 ≡ cardAt template s1 issue s4) × (foreignCalendar one ≡ foreignAt template s1)
+    (template : Template) × Follows₁ template s1 × (cardOf one issue s4 ≡ cardAt template s1 issue s4) × ((foreignCalendar one ≡ false) ↔ Gregorian template s1)
 card-by-octets = card-octets
 
 -- ---- "each slot holds the greatest card ever accepted for it, here or in a shelf joined in directly or through others, or is empty"

@@ -21,8 +21,8 @@ use Rattle.field.proofs.AcceptedExactlyWhen.{accepted-exactly-when}
 use Rattle.card.specs.declared.Card.{Card}
 use Rattle.shelf.specs.Shelves.{putOf}
 use Rattle.shelf.specs.declared.Shelf.{Shelf}
-use Rattle.filing.specs.Filing.{Filing, refusedFiling, accepted, issueOf, cardOf, cardAt, foreignCalendar, foreignAt, ofField, filingOf, keptIf, filedBy, filedOf}
-use Rattle.filing.specs.Accepted.{FollowsFiling, AcceptedFiling}
+use Rattle.filing.specs.Filing.{Filing, refusedFiling, accepted, issueOf, cardOf, cardAt, foreignCalendar, ofField, filingOf, keptIf, filedBy, filedOf}
+use Rattle.filing.specs.Accepted.{Gregorian, FollowsFiling, AcceptedFiling}
 use Rattle.filing.specs.declared.Issue.{Issue}
 use Rattle.filing.specs.declared.Filed.{Filed}
 use Rattle.filing.proofs.CardOctets.{card-octets}
@@ -63,7 +63,7 @@ module _ (slot : ℕ) (issue : Issue) (s1 s3 s4 s5 s7 : List ℕ) where
           let f = accepted-exactly-when s1 s3 s4 s5 s7 .0 (subst AcceptedField (sym r) tt) in
           let k = card-octets s1 one (issueOf issue) s4 (subst (FirstIs s1) r (field-first s1 s3 s4 s5 s7)) in
           let same : card ≡ cardOf one (issueOf issue) s4 = cc in
-          (record { there = l; field = f; gregorian = (k .0, k .1, sym (k .3) ∙ c) }, (k .0, k .1, same ∙ k .2))
+          (record { there = l; field = f; gregorian = (k .0, k .1, k .3 .0 c) }, (k .0, k .1, same ∙ k .2))
 
       by-field : slot < 64 → (o : FieldOutcome) → fieldOutcome s1 s3 s4 s5 s7 ≡ o → ofField o (issueOf issue) s4 ≡ accepted card → Follows × CardIs card
       by-field l (refusedField number section place) r e = let z : _≡_ {A = ℕ} 0 1 = cc in absurd (omega arith)
@@ -81,7 +81,7 @@ module _ (slot : ℕ) (issue : Issue) (s1 s3 s4 s5 s7 : List ℕ) where
       by-field (readField one three four five) r a =
           let k = card-octets s1 one (issueOf issue) s4 (subst (FirstIs s1) r (field-first s1 s3 s4 s5 s7)) in
           let g = f .gregorian in
-          let c : foreignCalendar one ≡ false = k .3 ∙ ap (λ (t : Template). foreignAt t s1) (one-template (k .0) (g .0) s1 (k .1) (g .1)) ∙ g .2 in
+          let c : foreignCalendar one ≡ false = k .3 .1 (subst (λ (t : Template). Gregorian t s1) (one-template (g .0) (k .0) s1 (g .1) (k .1)) (g .2)) in
           (cardOf one (issueOf issue) s4, rw (le-ltb 63 slot (omega (arith, f .there)), r, c))
 
   pub filed-exactly-when : ((card : Card) × (filingOf slot issue s1 s3 s4 s5 s7 ≡ accepted card)) ↔ FollowsFiling slot s1 s3 s4 s5 s7
