@@ -10,7 +10,6 @@ pub use Rattle.skogmund.proofs.RecordTold.{told-exactly-when, record-told}
 pub use Rattle.identification.proofs.FieldsCoverOnce.{at-none, at-1-0, at-1-1, at-1-2}
 pub use Rattle.grid.proofs.FieldsCoverOnce.{at-3-0, at-3-1, at-3-2, at-3-3}
 pub use Rattle.product.proofs.FieldsCoverOnce.{at-4-0, at-4-1, at-4-4, at-4-5, at-4-8, at-4-9, at-4-11, at-4-14, at-4-46}
-pub use Rattle.packing.proofs.FieldsCoverOnce.{at-5, at-7}
 -- and of section 4: the total and n that refusals look at are those of document 01's table, the forecast time that of the layouts
 -- (`product/specs/Accepted.antt`)
 pub use Rattle.product.proofs.AcceptedExactlyWhen.{table-places, table-total}
@@ -26,7 +25,7 @@ use lib.ListN.{length, getD, take, drop}
 use borrow.Author.Tests.{ne-eqb}
 use Rattle.octets.specs.Octets.{part, beAt}
 use Rattle.octets.proofs.Laws.{part-take}
-use Rattle.layout.specs.Fields.{Value, plain, after, valuesOf, octetsOf}
+use Rattle.layout.specs.Fields.{Value, plain, after, valuesOf, octetsOf, Covered}
 use Rattle.layout.specs.Outcomes.{Outcome, refused, read, andThen, firstOf}
 use Rattle.layout.proofs.Outcomes.{NoneHold, read-none}
 use Rattle.layout.proofs.Ranges.{test-same, same-test}
@@ -71,7 +70,7 @@ use Rattle.packing.specs.Unpacking.{unpackOutcome, rowBy, rowAfter, toldUnpacke
 use Rattle.packing.specs.declared.Unpacked.the-variants.{Written}
 use Rattle.packing.specs.Section5 as five
 use Rattle.packing.specs.Section7 as seven
-use Rattle.packing.specs.Accepted.{Follows₅, Follows₇}
+use Rattle.packing.specs.Accepted.{Follows₅, Follows₇, octets₅, octets₇}
 use Rattle.packing.specs.declared.Answer.{Answer as Answer₅}
 use Rattle.packing.specs.declared.Answer.the-variants.{Read as Read₅}
 use Rattle.packing.specs.declared.Packing.{Packing}
@@ -80,6 +79,8 @@ use Rattle.packing.specs.declared.DataAnswer.the-variants.{Read as Read₇}
 use Rattle.packing.specs.declared.DataSection.{DataSection}
 use Rattle.packing.proofs.AcceptedExactlyWhen.{accepted-exactly-when₅, accepted-follows₅, accepted-exactly-when₇, accepted-follows₇}
 use Rattle.packing.proofs.FieldsCoverOnce.{covered₅, covered₇}
+use Rattle.packing.specs.Means.{Means₅}
+use Rattle.packing.proofs.MeansByName.{means₅}
 use Rattle.field.specs.Field.{FieldOutcome, readField, onward, packedOutcome, told as toldField, fieldOutcome}
 use Rattle.field.specs.Accepted.{FollowsField, AcceptedField}
 use Rattle.field.specs.declared.Answer.{Answer as FieldAnswer}
@@ -143,10 +144,10 @@ section-3-covered template s f = covered₃ template (listWidth s) (listCount s)
 pub section-4-covered : (kind : PartKind) (timed : Bool) (s : List ℕ) → Follows₄ kind timed s → octetsOf (after 0 (fieldsIn kind timed s)) s ≡ s
 section-4-covered kind timed s f = covered₄ kind timed _ _ _ s (follows-total kind timed s f)
 
-pub section-5-covered : (s : List ℕ) → Follows₅ s → octetsOf (after 0 five.fields₅) s ≡ s
+pub section-5-covered : (s : List ℕ) → Follows₅ s → Covered (after 0 five.fields₅) octets₅ s
 section-5-covered s f = covered₅ s (f .whole)
 
-pub section-7-covered : (n bits : ℕ) (s : List ℕ) → Follows₇ n bits s → octetsOf (after 0 (seven.fields₇ n bits)) s ≡ s
+pub section-7-covered : (n bits : ℕ) (s : List ℕ) → Follows₇ n bits s → Covered (after 0 (seven.fields₇ n bits)) (octets₇ n bits) s
 section-7-covered n bits s f = covered₇ n bits s (f .whole)
 
 -- ---- "What is read out is what those octets mean": a record that is read has the values of the fields, and section 1's the real year beside them
@@ -166,6 +167,10 @@ section-4-means s x e = follows₄ s (valuesIn₄ x) (sym e)
 pub section-5-means : (s : List ℕ) (x : Packing) → five.told₅ (Read₅ x) ≡ five.outcome₅ s → Follows₅ s × (five.valuesIn₅ x ≡ valuesOf (after 0 five.fields₅) s)
 unfolding five.told₅
 section-5-means s x e = accepted-follows₅ s (five.valuesIn₅ x) (sym e)
+
+-- by name and octet
+pub section-5-by-name : (s : List ℕ) (x : Packing) → five.told₅ (Read₅ x) ≡ five.outcome₅ s → Means₅ x s
+section-5-by-name s x e = means₅ s x (section-5-means s x e .1)
 
 pub section-7-means : (n bits : ℕ) (s : List ℕ) (x : DataSection) → seven.told₇ (Read₇ x) ≡ seven.outcome₇ n bits s → Follows₇ n bits s × (seven.valuesIn₇ x ≡ valuesOf (after 0 (seven.fields₇ n bits)) s)
 unfolding seven.told₇

@@ -8,19 +8,16 @@ use mathlib.Core.Path.{_≡_, refl, sym, ap, subst⁻¹, _∙_}
 use mathlib.Core.Bool.{Bool, true, false, cond}
 use mathlib.Core.List.{List, [], _∷_}
 use mathlib.Core.Logic.{_≢_}
-use lib.Dec.{eqb, ltb}
+use lib.Dec.{eqb}
 use lib.IntN.{ℤ, pos, negsuc, natAbs, _*ℤ_}
 use lib.ListN.{drop, replicate}
 use lib.Signed.{mag}
 use Rattle.octets.specs.Octets.{octet, beAt, signOf, realYear, AllOctets}
 use Rattle.octets.proofs.Laws.{beAt-below, part-length, take-octets, drop-octets}
 use Rattle.octets.proofs.Signs.{abs-add, abs-mul, sign-abs}
-use Rattle.layout.specs.Fields.{Value}
-use Rattle.layout.specs.Outcomes.{Outcome, refused, read}
-use Rattle.identification.specs.Section1.{outcome₁, realYearAt}
+use Rattle.identification.specs.Section1.{realYearAt}
 use Rattle.identification.specs.declared.Template.{Template}
 use Rattle.identification.specs.declared.Template.the-variants.{None as noTemplate, Calendar, Offset, CalendarAndOffset}
-use Rattle.field.specs.Field.{FieldOutcome, refusedField, readField, onward, packedOutcome, fieldOutcome}
 use Rattle.shelf.specs.declared.Shelf.{Shelf}
 use Rattle.shelf.specs.Shelves.{slotAt, emptyShelf, joinShelf}
 use Rattle.shelf.specs.History.{Keeps}
@@ -28,8 +25,8 @@ use Rattle.shelf_octets.specs.ShelfOctets.{shelfIn, asOctets, joinOctets, Held,
 use Rattle.shelf_octets.proofs.Laws as laws
 use Rattle.filing.specs.declared.Issue.{Issue}
 use Rattle.filing.specs.declared.Issue.the-variants.{NotNamed, Named}
-use Rattle.filing.specs.Filing.{Filing, refusedFiling, accepted, issueOf, cardOf, foreignCalendar, ofField, filingOf, filedBy, filedOf, issueFrom}
-use Rattle.filing.proofs.CardOctets.{card-octets}
+use Rattle.filing.specs.Filing.{Filing, refusedFiling, accepted, issueOf, filingOf, filedBy, filedOf, issueFrom}
+use Rattle.filing.proofs.FiledExactlyWhen.{filed-exactly-when, filed-card}
 use Rattle.cutting.specs.Cuts.{cutOf}
 use Rattle.cutting.specs.Sections.{stretch}
 use Rattle.cutting.proofs.Taken.{taken}
@@ -67,47 +64,19 @@ year-small Calendar s a = omega (arith, beAt-below s 13 2 a)
 year-small Offset s a = real-year-small (beAt s 13 2) (beAt s 24 2) (beAt-below s 13 2 a) (beAt-below s 24 2 a)
 year-small CalendarAndOffset s a = real-year-small (beAt s 13 2) (beAt s 25 2) (beAt-below s 13 2 a) (beAt-below s 25 2 a)
 
-card-held : (s1 : List ℕ) (one : List Value) (issue : ℕ) (s4 : List ℕ) → AllOctets s1 → issue < 2 ^ 32 → outcome₁ s1 ≡ read one → Held (cardOf one issue s4)
-card-held s1 one issue s4 a h e =
-    let c = card-octets s1 one issue s4 e in
-    subst⁻¹ Held (c .2) (record { year = year-small (c .0) s1 a; issue = h; product = part-length s4 8 27 })
-
--- the first values of a field that is read are section 1's
-abbrev FirstIs : List ℕ → FieldOutcome → Type 0
-FirstIs s1 (refusedField number section place) = Unit {0}
-FirstIs s1 (readField one three four five) = outcome₁ s1 ≡ read one
-
-onward-first : (s1 : List ℕ) (o : Outcome) (next : List Value → FieldOutcome) → ((vs : List Value) → o ≡ read vs → FirstIs s1 (next vs)) → FirstIs s1 (onward o next)
-unfolding onward
-onward-first s1 (refused number section place) next f = tt
-onward-first s1 (read vs) next f = f vs refl
-
-field-first : (s1 s3 s4 s5 s7 : List ℕ) → FirstIs s1 (fieldOutcome s1 s3 s4 s5 s7)
-unfolding fieldOutcome packedOutcome
-field-first s1 s3 s4 s5 s7 =
-    onward-first s1 _ _ (λ one e. onward-first s1 _ _ (λ three _. onward-first s1 _ _ (λ four _. onward-first s1 _ _ (λ five _. onward-first s1 _ _ (λ seven _. e)))))
-
 -- a card that is accepted is one that a machine has
 abbrev HeldIf : Filing → Type 0
 HeldIf (refusedFiling number section place) = Unit {0}
 HeldIf (accepted card) = Held card
 
-field-held : (o : FieldOutcome) (s1 : List ℕ) (issue : ℕ) (s4 : List ℕ) → AllOctets s1 → issue < 2 ^ 32 → FirstIs s1 o → HeldIf (ofField o issue s4)
-unfolding ofField
-field-held (refusedField number section place) s1 issue s4 a h f = tt
-field-held (readField one three four five) s1 issue s4 a h f = by-calendar (foreignCalendar one)
-  where
-    by-calendar : (t : Bool) → HeldIf (cond t (refusedFiling 17 1 0) (accepted (cardOf one issue s4)))
-    by-calendar true = tt
-    by-calendar false = card-held s1 one issue s4 a h f
-
 filing-held : (slot : ℕ) (issue : Issue) (s1 s3 s4 s5 s7 : List ℕ) → AllOctets s1 → issueOf issue < 2 ^ 32 → HeldIf (filingOf slot issue s1 s3 s4 s5 s7)
-unfolding filingOf
-filing-held slot issue s1 s3 s4 s5 s7 a h = by-slot (ltb 63 slot)
+filing-held slot issue s1 s3 s4 s5 s7 a h = by-filing (filingOf slot issue s1 s3 s4 s5 s7) refl
   where
-    by-slot : (t : Bool) → HeldIf (cond t (refusedFiling 16 0 0) (ofField (fieldOutcome s1 s3 s4 s5 s7) (issueOf issue) s4))
-    by-slot true = tt
-    by-slot false = field-held (fieldOutcome s1 s3 s4 s5 s7) s1 (issueOf issue) s4 a h (field-first s1 s3 s4 s5 s7)
+    by-filing : (f : Filing) → filingOf slot issue s1 s3 s4 s5 s7 ≡ f → HeldIf f
+    by-filing (refusedFiling number section place) e = tt
+    by-filing (accepted card) e =
+        let g = filed-exactly-when slot issue s1 s3 s4 s5 s7 .0 (card, e) .gregorian in
+        subst⁻¹ Held (filed-card slot issue s1 s3 s4 s5 s7 card e (g .0) (g .1)) (record { year = year-small (g .0) s1 a; issue = h; product = part-length s4 8 27 })
 
 filed-stored : (s : Shelf) (slot : ℕ) (f : Filing) → Stored s → HeldIf f → Stored (filedBy s slot f .shelf)
 unfolding filedBy

@@ -1,13 +1,11 @@
 -- What is answered is said of the filing and of the slots before and after, whatever shelf of 64 slots is lent.
 -- Assumes nothing.
 use Prim.Native.Nat.{ℕ, _<_}
-use native.Mathlib.Omega.{arith}
 use mathlib.Core.Path.{_≡_, refl, sym, _∙_}
-use mathlib.Core.Bool.{Bool, true, false, cond}
+use mathlib.Core.Bool.{Bool, true, false}
 use mathlib.Core.List.{List}
-use lib.Dec.{ltb}
 use lib.ListN.{length}
-use borrow.Author.Tests.{lt-ltb, ltb-false}
+use borrow.Author.Tests.{lt-ltb}
 use Rattle.card.specs.declared.Card.{Card}
 use Rattle.card.proofs.Strict.{less-apart}
 use Rattle.shelf.specs.declared.Shelf.{Shelf}
@@ -16,6 +14,7 @@ use Rattle.shelf.proofs.Slots.{slot-strict}
 use Rattle.shelf.proofs.Laws.{put-other, put-raises, put-stays}
 use Rattle.filing.specs.Filing.{Filing, refusedFiling, accepted, filingOf, filedBy, keptIf, Said}
 use Rattle.filing.specs.declared.Issue.{Issue}
+use Rattle.filing.proofs.FiledExactlyWhen.{filed-exactly-when}
 
 -- ---- a card is accepted only for a slot that is there: 16
 
@@ -24,16 +23,11 @@ SlotThere slot (refusedFiling number section place) = Unit {0}
 SlotThere slot (accepted card) = slot < 64
 
 pub slot-there : (slot : ℕ) (issue : Issue) (s1 s3 s4 s5 s7 : List ℕ) → SlotThere slot (filingOf slot issue s1 s3 s4 s5 s7)
-unfolding filingOf
-slot-there slot issue s1 s3 s4 s5 s7 = by-slot (ltb 63 slot) _ refl
+slot-there slot issue s1 s3 s4 s5 s7 = by-filing (filingOf slot issue s1 s3 s4 s5 s7) refl
   where
-    of-any : slot < 64 → (f : Filing) → SlotThere slot f
-    of-any h (refusedFiling number section place) = tt
-    of-any h (accepted card) = h
-
-    by-slot : (t : Bool) (f : Filing) → ltb 63 slot ≡ t → SlotThere slot (cond t (refusedFiling 16 0 0) f)
-    by-slot true f e = tt
-    by-slot false f e = of-any (omega (arith, ltb-false 63 slot e)) f
+    by-filing : (f : Filing) → filingOf slot issue s1 s3 s4 s5 s7 ≡ f → SlotThere slot f
+    by-filing (refusedFiling number section place) e = tt
+    by-filing (accepted card) e = filed-exactly-when slot issue s1 s3 s4 s5 s7 .0 (card, e) .there
 
 -- ---- what is answered
 

@@ -1,6 +1,6 @@
 -- The laws of fields that follow one another, for every list of fields and wherever it starts.
 -- Assumes nothing.
-use mathlib.Core.Path.{_≡_, refl, ap, sym, _∙_}
+use mathlib.Core.Path.{_≡_, refl, ap, sym, subst, _∙_}
 use mathlib.Core.List.{List, [], _∷_, _++_, append-assoc}
 use mathlib.Core.Bool.{Bool, true, false, cond}
 use Prim.Native.Nat.{ℕ, _+_, _≤_}
@@ -9,7 +9,7 @@ use native.Mathlib.Omega.{arith}
 use lib.ListN.{length, drop}
 use Rattle.octets.specs.Octets.{beAt, part}
 use Rattle.octets.proofs.Laws.{part-add, part-all, beAt-drop}
-use Rattle.layout.specs.Fields.{Field, FieldAt, width, allowed, reads, widthOf, placed, after, lowestBad, badPlace, valuesOf, octetsOf, AllAllowed}
+use Rattle.layout.specs.Fields.{Field, held, said, shown, FieldAt, width, allowed, reads, widthOf, placed, after, Run, runs, Cover, lowestBad, badPlace, valuesOf, octetsOf, AllAllowed, Covered}
 
 pub width-append : (a b : List Field) → widthOf (a ++ b) ≡ widthOf a + widthOf b
 unfolding widthOf
@@ -62,9 +62,27 @@ unfolding octetsOf placed widthOf part
 octets-from end k [] s = refl
 octets-from end k (f ∷ fs) s = rw (octets-from end (k + width f) fs s, part-add, add-assoc)
 
--- and those of a section as long as its fields are the whole section
+-- by number: the octets of the fields are those from where they start to where they end, each once
+cover-from : (end k : ℕ) (fs : List Field) (last : ℕ) → end + k + widthOf fs ≡ last + 1 → Cover (end + k) (runs (placed end k fs)) last
+unfolding runs placed widthOf Cover
+cover-from end k [] last e = omega arith
+cover-from end k (held w a m ∷ fs) last e =
+    (refl, rw add-assoc (cover-from end (k + w) fs last (omega arith)))
+cover-from end k (said v ∷ fs) last e = rw add-zero (cover-from end k fs last (omega arith))
+cover-from end k (shown w ∷ fs) last e =
+    (refl, rw add-assoc (cover-from end (k + w) fs last (omega arith)))
+
 pub covers : (fs : List Field) (s : List ℕ) → length s ≡ widthOf fs → octetsOf (after 0 fs) s ≡ s
 covers fs s e = octets-from 0 1 fs s ∙ ap (part s 1) (sym e) ∙ part-all s
+
+-- and those of a section as long as its fields are the whole section
+pub covered : (fs : List Field) (layout : List Run) (s : List ℕ) → runs (after 0 fs) ≡ layout → length s ≡ widthOf fs → Covered (after 0 fs) layout s
+covered fs layout s e l =
+    record {
+      stand = e;
+      numbers = subst (λ (rs : List Run). Cover 1 rs (length s)) e (cover-from 0 1 fs (length s) (omega arith));
+      strung = covers fs s l;
+    }
 
 -- ---- no field is out of its range
 

@@ -2,11 +2,14 @@
 -- Assumes nothing.
 use mathlib.Core.Path.{_≡_, refl, ap, sym, _∙_}
 use mathlib.Core.List.{List}
+use mathlib.Core.Bool.{Bool, true, false, cond}
 use Prim.Native.Nat.{ℕ, _+_}
+use lib.Dec.{eqb}
 use lib.ListN.{getD}
 use lib.IntN.{natAbs}
-use Rattle.layout.specs.Fields.{Value, none, missing, is, which, naturalIn}
-use Rattle.layout.specs.Missing.{in32, inSigned}
+use Rattle.octets.specs.Octets.{signOf, allOnes}
+use Rattle.layout.specs.Fields.{Value, none, missing, is, which, plain, naturalIn, means, unsigned, signed, orMissing}
+use Rattle.layout.specs.Missing.{in32, inSigned, unlessMissing, signedUnlessMissing}
 use Rattle.layout.specs.Time.{timeIn}
 use Rattle.layout.specs.declared.Time.{Time}
 use Rattle.layout.specs.declared.U32OrMissing.{U32OrMissing}
@@ -34,6 +37,22 @@ toSigned (which n) = noSigned
 pub backSigned : (x : I32OrMissing) → toSigned (inSigned x) ≡ x
 backSigned noSigned = refl
 backSigned (isSigned z) = refl
+
+-- ---- which number octets say that may be missing
+
+pub means32 : (width x : ℕ) → to32 (means (orMissing unsigned) width x) ≡ unlessMissing width x
+means32 width x = by (eqb x (allOnes width))
+  where
+    by : (t : Bool) → to32 (cond t missing (plain x)) ≡ cond t no32 (is32 x)
+    by true = refl
+    by false = refl
+
+pub meansSigned : (width x : ℕ) → toSigned (means (orMissing signed) width x) ≡ signedUnlessMissing width x
+meansSigned width x = by (eqb x (allOnes width))
+  where
+    by : (t : Bool) → toSigned (cond t missing (is (signOf width x))) ≡ cond t noSigned (isSigned (signOf width x))
+    by true = refl
+    by false = refl
 
 -- ---- so equal values are of equal answers
 

@@ -6,6 +6,7 @@ use mathlib.Core.List.{List, [], _∷_, _++_}
 use mathlib.Core.Bool.{Bool, true, not, cond, _&&_}
 use lib.Dec.{leb, eqb}
 use lib.IntN.{ℤ, pos, natAbs}
+use lib.ListN.{length}
 use Rattle.octets.specs.Octets.{beAt, part, signOf, allOnes}
 
 -- ---- values
@@ -141,6 +142,31 @@ unfoldable pub starts : List FieldAt → List ℕ
 starts [] = []
 starts (p ∷ ps) = cond (eqb (width (p .field)) 0) (starts ps) (p .at ∷ starts ps)
 
+-- ---- which octets they have
+
+-- octets that stand together: the number of the first, and how many
+pub record Run : Type 0 where
+  pub first : ℕ
+  pub count : ℕ
+
+abbrev pub run : ℕ → ℕ → Run
+run first count = record { first = first; count = count }
+
+-- those of a field; what is said without octets has none
+abbrev pub runOf : ℕ → Field → List Run
+runOf at (held w a m) = run at w ∷ []
+runOf at (said v) = []
+runOf at (shown w) = run at w ∷ []
+
+unfoldable pub runs : List FieldAt → List Run
+runs [] = []
+runs (p ∷ ps) = runOf (p .at) (p .field) ++ runs ps
+
+-- one after the other they are the octets from `next` to `last`, each once: every run starts where the one before it ends
+unfoldable pub Cover : ℕ → List Run → ℕ → Type 0
+Cover next [] last = next ≡ last + 1
+Cover next (r ∷ rs) last = (r .first ≡ next) × Cover (next + r .count) rs last
+
 -- ---- what a section's octets say
 
 -- the number in a field's octets
@@ -170,3 +196,12 @@ AllAllowed (p ∷ ps) s = (allowed (p .field) (rawAt p s) ≡ true) × AllAllowe
 unfoldable pub octetsOf : List FieldAt → List ℕ → List ℕ
 octetsOf [] s = []
 octetsOf (p ∷ ps) s = part s (p .at) (width (p .field)) ++ octetsOf ps s
+
+-- ---- the fields cover a section
+
+-- the fields stand where a layout has them by octet numbers; these are 1 to the length, each once; and the octets that stand there, strung
+-- together, are the section
+pub record Covered (ps : List FieldAt) (layout : List Run) (s : List ℕ) : Type 0 where
+  pub stand : runs ps ≡ layout
+  pub numbers : Cover 1 layout (length s)
+  pub strung : octetsOf ps s ≡ s

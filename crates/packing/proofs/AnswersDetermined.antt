@@ -4,7 +4,7 @@ use Prim.Native.Nat.{ℕ}
 use mathlib.Core.Path.{_≡_, refl, ap, sym, _∙_}
 use mathlib.Core.List.{List}
 use lib.ListN.{getD}
-use Rattle.layout.specs.Fields.{none, wholeIn, naturalIn}
+use Rattle.layout.specs.Fields.{Value, none, wholeIn, naturalIn}
 use Rattle.layout.specs.Outcomes.{Outcome, refused, read, refusal}
 use Rattle.layout.proofs.Untold.{told-back}
 use Rattle.packing.specs.Section5.{told₅, valuesIn₅, outcome₅}
@@ -20,11 +20,10 @@ use Rattle.packing.specs.declared.Unpacked.the-variants.{Written, Refuse
 
 -- ---- section 5
 
-untold₅ : Outcome → Answer
-untold₅ (refused n s p) = Refused₅ (refusal n s p)
-untold₅ (read vs) =
-    Read₅
-    (record {
+-- the record that says these values
+unfoldable pub toPacking : List Value → Packing
+toPacking vs =
+    record {
       length = naturalIn (getD vs 0 none);
       number = naturalIn (getD vs 1 none);
       values = naturalIn (getD vs 2 none);
@@ -34,20 +33,27 @@ untold₅ (read vs) =
       «decimal_scale» = wholeIn (getD vs 6 none);
       bits = naturalIn (getD vs 7 none);
       «value_type» = naturalIn (getD vs 8 none);
-    })
+    }
 
-back₅ : (a : Answer) → untold₅ (told₅ a) ≡ a
-unfolding untold₅ told₅ valuesIn₅
-back₅ (Refused₅ x) = refl
-back₅ (Read₅ x) = refl
-
-pub determined₅ : (s : List ℕ) (a b : Answer) → told₅ a ≡ outcome₅ s → told₅ b ≡ outcome₅ s → a ≡ b
-determined₅ s a b p q = told-back told₅ untold₅ back₅ a b (p ∙ sym q)
+pub packing-back : (x : Packing) → toPacking (valuesIn₅ x) ≡ x
+unfolding toPacking valuesIn₅
+packing-back x = refl
 
 -- so two records that say the same are one record
 pub same-record₅ : (x y : Packing) → valuesIn₅ x ≡ valuesIn₅ y → x ≡ y
-unfolding told₅
-same-record₅ x y e = let r : Read₅ x ≡ Read₅ y = told-back told₅ untold₅ back₅ (Read₅ x) (Read₅ y) (ap read e) in cc
+same-record₅ = told-back valuesIn₅ toPacking packing-back
+
+untold₅ : Outcome → Answer
+untold₅ (refused n s p) = Refused₅ (refusal n s p)
+untold₅ (read vs) = Read₅ (toPacking vs)
+
+back₅ : (a : Answer) → untold₅ (told₅ a) ≡ a
+unfolding untold₅ told₅
+back₅ (Refused₅ x) = refl
+back₅ (Read₅ x) = ap Read₅ (packing-back x)
+
+pub determined₅ : (s : List ℕ) (a b : Answer) → told₅ a ≡ outcome₅ s → told₅ b ≡ outcome₅ s → a ≡ b
+determined₅ s a b p q = told-back told₅ untold₅ back₅ a b (p ∙ sym q)
 
 -- ---- section 7
 

@@ -7,3 +7,4 @@ pub mod Runs
 pub mod Unpacks
 pub mod Entries
 pub mod RefusalNumbers
+pub mod MeansByName

@@ -2,10 +2,19 @@
 -- Assumes nothing.
 use Prim.Native.Nat.{ℕ, _+_, _≤_}
 use mathlib.Core.Path.{_≡_}
-use mathlib.Core.List.{List}
+use mathlib.Core.List.{List, [], _∷_}
 use lib.ListN.{length}
 use Rattle.octets.specs.Octets.{beAt}
+use Rattle.layout.specs.Fields.{Run, run}
 use Rattle.packing.specs.Section7.{packedOctets}
+
+-- the octets of each field by their numbers: 1-4, 5, 6-9, 10-11, 12-15, 16-17, 18-19, 20, 21
+abbrev pub octets₅ : List Run
+octets₅ = run 1 4 ∷ run 5 1 ∷ run 6 4 ∷ run 10 2 ∷ run 12 4 ∷ run 16 2 ∷ run 18 2 ∷ run 20 1 ∷ run 21 1 ∷ []
+
+-- 1-4, 5, and the packed values from octet 6 on
+abbrev pub octets₇ : ℕ → ℕ → List Run
+octets₇ n bits = run 1 4 ∷ run 5 1 ∷ run 6 (packedOctets n bits) ∷ []
 
 pub record Follows₅ (s : List ℕ) : Type 0 where
   pub whole : length s ≡ 21

@@ -6,3 +6,4 @@ pub mod Reading
 pub mod Accepted
 pub mod Examples
 pub mod Refused
+pub mod Means

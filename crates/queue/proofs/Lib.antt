@@ -9,3 +9,5 @@ pub mod Concatenation
 pub mod StarredQueues
 pub mod Entries
 pub mod RefusalNumbers
+pub mod Spelled
+pub mod FiveSections
