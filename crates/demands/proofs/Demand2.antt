@@ -57,11 +57,13 @@ use Rattle.product.specs.Table.{TemplateRow, countIn, isTimed, octets₄}
 use Rattle.product.specs.Section4 as four
 use Rattle.product.specs.Views.{rangeOf, membersOf, coordinatesOf, firstStrung}
 use Rattle.product.specs.Accepted.{Follows₄}
+use Rattle.product.specs.Means.{Means₄}
 use Rattle.product.specs.declared.Answer.{Answer as Answer₄}
 use Rattle.product.specs.declared.Answer.the-variants.{Read as Read₄}
 use Rattle.product.specs.declared.blocks.Product.{Product}
 use Rattle.product.proofs.AcceptedExactlyWhen.{accepted-exactly-when as exactly₄, accepted-follows as follows₄}
 use Rattle.product.proofs.FieldsCoverOnce.{covered₄}
+use Rattle.product.proofs.MeansByName.{means₄}
 use Rattle.product.proofs.ViewsAreTheLayouts.{views-shown, range-whole, no-range, no-members, refused-nothing}
 use Rattle.lent.proofs.Rows.{each-filled}
 use Rattle.packing.specs.Packed.{bitsFrom, packedAt, unpacked}
@@ -163,6 +165,12 @@ section-3-means s x e = follows₃ s (valuesIn₃ x) (sym e)
 pub section-4-means : (s : List ℕ) (x : Product) → four.told (Read₄ x) ≡ four.outcome₄ s → (row : TemplateRow) × Follows₄ row s × (valuesIn₄ x ≡ values₄ (row .part) (isTimed row) s)
 unfolding four.told
 section-4-means s x e = follows₄ s (valuesIn₄ x) (sym e)
+
+-- by name and octet
+pub section-4-by-name : (s : List ℕ) (x : Product) → four.told (Read₄ x) ≡ four.outcome₄ s → (row : TemplateRow) × Follows₄ row s × Means₄ row x s
+section-4-by-name s x e =
+    let f = section-4-means s x e in
+    (f .0, f .1, means₄ (f .0) (f .1 .listed) s x (f .2))
 
 pub section-5-means : (s : List ℕ) (x : Packing) → five.told₅ (Read₅ x) ≡ five.outcome₅ s → Follows₅ s × (five.valuesIn₅ x ≡ valuesOf (after 0 five.fields₅) s)
 unfolding five.told₅

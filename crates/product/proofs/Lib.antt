@@ -5,5 +5,6 @@ pub mod FieldsCoverOnce
 pub mod AcceptedExactlyWhen
 pub mod ViewsAreTheLayouts
 pub mod AnswersDetermined
+pub mod MeansByName
 pub mod Entries
 pub mod RefusalNumbers

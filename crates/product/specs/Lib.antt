@@ -4,5 +4,6 @@ pub mod Section4
 pub mod Views
 pub mod Table
 pub mod Accepted
+pub mod Means
 pub mod Examples
 pub mod Refused
