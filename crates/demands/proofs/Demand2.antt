@@ -53,7 +53,7 @@ use Rattle.grid.proofs.FieldsCoverOnce.{covered as covered₃}
 use Rattle.grid.proofs.ListShown.{those-very-octets, without-a-list, points-are-its-sum, refused-shows-none}
 use Rattle.product.specs.Blocks.{valuesIn as valuesIn₄}
 use Rattle.product.specs.Templates.{fieldsIn, values₄}
-use Rattle.product.specs.Table.{TemplateRow, countIn, isTimed, octets₄}
+use Rattle.product.specs.Table.{octet, TemplateRow, countIn, isTimed, octets₄}
 use Rattle.product.specs.Section4 as four
 use Rattle.product.specs.Views.{rangeOf, membersOf, coordinatesOf, firstStrung}
 use Rattle.product.specs.Accepted.{Follows₄}
@@ -64,7 +64,7 @@ use Rattle.product.specs.declared.blocks.Product.{Product}
 use Rattle.product.proofs.AcceptedExactlyWhen.{accepted-exactly-when as exactly₄, accepted-follows as follows₄}
 use Rattle.product.proofs.FieldsCoverOnce.{covered₄}
 use Rattle.product.proofs.MeansByName.{means₄}
-use Rattle.product.proofs.ViewsAreTheLayouts.{views-shown, range-whole, no-range, no-members, refused-nothing}
+use Rattle.product.proofs.ViewsAreTheLayouts.{views-shown, range-stands, members-stand, coordinates-stand, range-whole, no-range, no-members, refused-nothing}
 use Rattle.lent.proofs.Rows.{each-filled}
 use Rattle.packing.specs.Packed.{bitsFrom, packedAt, unpacked}
 use Rattle.packing.specs.Unpacking.{unpackOutcome, rowBy, rowAfter, toldUnpacked, Unpacks}
@@ -217,6 +217,16 @@ no-list-of-section-3 = refused-shows-none
 -- the time ranges, strung together, the members and the coordinates are the octets that the layout shows, in their order
 pub views-of-section-4 : (row : TemplateRow) (s : List ℕ) → Follows₄ row s → shownOf (after 0 (fieldsIn (row .part) (isTimed row) s)) s ≡ firstStrung (rangeOf s) (countIn (row .ranges) s) ∷ membersOf s ∷ coordinatesOf s ∷ []
 views-of-section-4 = views-shown
+
+-- by octet numbers: if n stands at octet p, the ranges start at p + 5; the members follow them, and then the coordinates
+pub range-by-octet : (row : TemplateRow) (s : List ℕ) → Follows₄ row s → (p : ℕ) → row .ranges ≡ octet p → (k : ℕ) → k < beAt s p 1 → rangeOf s k ≡ part s (p + 5 + 12 * k) 12
+range-by-octet = range-stands
+
+pub members-by-octet : (row : TemplateRow) (s : List ℕ) → Follows₄ row s → membersOf s ≡ part s (row .octets + 12 * countIn (row .ranges) s + 1) (countIn (row .members) s)
+members-by-octet = members-stand
+
+pub coordinates-by-octet : (row : TemplateRow) (s : List ℕ) → Follows₄ row s → coordinatesOf s ≡ part s (row .octets + 12 * countIn (row .ranges) s + countIn (row .members) s + 1) (4 * beAt s 6 2)
+coordinates-by-octet = coordinates-stand
 
 pub range-has-12 : (row : TemplateRow) (s : List ℕ) → Follows₄ row s → (k : ℕ) → k < countIn (row .ranges) s → length (rangeOf s k) ≡ 12
 range-has-12 = range-whole

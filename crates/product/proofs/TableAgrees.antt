@@ -54,14 +54,18 @@ module _ (row : TemplateRow) (m : List·Memᴰ row templates₄) where
   pub table-members : (s : List ℕ) → membersAt (row .part) s ≡ countIn (row .members) s
   table-members s = each-row (λ r. membersAt (r .part) s) (λ r. countIn (r .members) s) templates₄ refl row m
 
-  -- the octets before all lists
+  -- the octets before the lists
   table-octets : rangesEnd (row .part) (isTimed row) 0 ≡ row .octets
   unfolding rangesEnd
   table-octets = each-row (λ r. rangesEnd (r .part) (isTimed r) 0) (λ r. r .octets) templates₄ refl row m
 
+  -- where the ranges end, and the whole
+  pub table-end : (s : List ℕ) → rangesEnd (row .part) (isTimed row) (rangesAt (row .part) (isTimed row) s) ≡ row .octets + 12 * countIn (row .ranges) s
+  table-end s = rw (← table-octets, ← table-ranges s) (ends-after (row .part) (isTimed row) s)
+
   pub table-total : (s : List ℕ) → totalIn (row .part) (isTimed row) s ≡ row .octets + 12 * countIn (row .ranges) s + countIn (row .members) s + 4 * beAt s 6 2
   unfolding total
-  table-total s = rw (← table-octets, ← table-ranges s, ← table-members s, ends-after (row .part) (isTimed row) s)
+  table-total s = rw (table-end s, table-members s)
 
 -- ---- which numbers are listed
 
