@@ -81,7 +81,7 @@ module _ (kind : PartKind) (s : List ℕ) where
   in-interval true k = (none-bad _ s (in-end (partEnd kind) s k), ne-eqb _ _ (k .ranges))
   in-interval false k = (refl, refl)
 
--- the forecast time is all that can be out of range in the fields that every template timed
+-- the forecast time is all that can be out of range in the fields that every template has
 time-in : (end : ℕ) (s : List ℕ) → AllAllowed (after end common) s → beAt s (end + 8) 4 ≡ 0xffffffff → ⊥
 unfolding AllAllowed placed common process forecast surface scaled
 time-in end s h = test-differs _ _ (h .1 .1 .1 .1 .1 .1 .0)
@@ -101,14 +101,16 @@ forecast-place row m = omega (arith, table-process row m)
 
 module _ (s : List ℕ) (vs : List Value) where
   -- by a row of the table
-  by-row : (row : TemplateRow) → List·Memᴰ row templates₄ → beAt s 8 2 ≡ row .number → Headed 4 s → asTemplate (row .part) (isTimed row) s ≡ read vs → Follows₄ row s × (vs ≡ values₄ (row .part) (isTimed row) s)
-  unfolding asTemplate
+  by-row : (row : TemplateRow) → List·Memᴰ row templates₄ → beAt s 8 2 ≡ row .number → Headed 4 s → byTemplate (templateOf (beAt s 8 2)) s ≡ read vs → (row : TemplateRow) × Follows₄ row s × (vs ≡ values₄ (row .part) (isTimed row) s)
+  unfolding asTemplate byTemplate
   by-row row m names head e =
       let kind = row .part in
       let timed = isTimed row in
-      let fits = template-read 4 s (read (values₄ kind timed s)) _ _ _ _ vs e in
+      let by = ap (λ (t : Template). byTemplate t s) (sym (ap templateOf names ∙ table-listed row m)) ∙ e in
+      let fits = template-read 4 s (read (values₄ kind timed s)) _ _ _ _ vs by in
       let bad = sym (bad-is kind timed (rangesAt kind timed s) (membersAt kind s) (coordinatesAt s) s) ∙ fits .0 .in-range in
       let fine = bad-clear (frontEnd kind) 1 common s _ (omega arith) bad in (
+        row,
         record {
           listed = m;
           small = head .small;
@@ -122,21 +124,17 @@ module _ (s : List ℕ) (vs : List Value) where
         cc,
       )
 
-  -- no number is accepted that no row timed
-  not-without : (template : Template) → template ≡ NotListed → byTemplate template s ≡ read vs → ⊥
+  -- a number that no row has is not accepted
+  by-none : (template : Template) → template ≡ NotListed → byTemplate template s ≡ read vs → ⊥
   unfolding byTemplate
-  not-without template n e = let z : _≡_ {A = ℕ} 0 1 = cc in omega arith
+  by-none template n e = let z : _≡_ {A = ℕ} 0 1 = cc in omega arith
 
   pub accepted-follows : outcome₄ s ≡ read vs → (row : TemplateRow) × Follows₄ row s × (vs ≡ values₄ (row .part) (isTimed row) s)
-  unfolding outcome₄ byTemplate
+  unfolding outcome₄
   accepted-follows e =
       let head = opening-read 4 s _ 9 vs e in
-      ⊎-elim (λ n. absurd (not-without (templateOf (beAt s 8 2)) n (head .2)))
-      (λ one.
-      let row = one .0 in
-      let named = ap templateOf (one .2) ∙ table-listed row (one .1) in
-      let f = by-row row (one .1) (one .2) (head .0) (ap (λ (t : Template). byTemplate t s) (sym named) ∙ head .2) in
-      (row, f .0, f .1))
+      ⊎-elim (λ n. absurd (by-none (templateOf (beAt s 8 2)) n (head .2)))
+      (λ one. by-row (one .0) (one .1) (one .2) (head .0) (head .2))
       (listed-or-not (beAt s 8 2))
 
 -- ---- it follows, so it is accepted
@@ -149,7 +147,7 @@ long-enough kind true (suc n) nc nv h = (omega arith, omega (arith, part-enough 
 long-enough kind false n nc nv h = (omega arith, omega (arith, part-enough kind))
 
 module _ (row : TemplateRow) (s : List ℕ) (f : Follows₄ row s) where
-  -- the outcome has it for the row's template
+  -- the outcome reads it by the row's part, and with time ranges where the row has them
   pub follows-listed : templateOf (beAt s 8 2) ≡ Listed (row .part) (isTimed row)
   follows-listed = ap templateOf (f .names) ∙ table-listed row (f .listed)
 

@@ -21,7 +21,7 @@ use Rattle.product.specs.declared.templates.Template.the-variants.{NotLi
 -- two computations that agree along a table agree on each of its rows
 pub each-row : {A : Type 0} (f g : TemplateRow → A) (rows : List TemplateRow) → map f rows ≡ map g rows → (row : TemplateRow) → List·Memᴰ row rows → f row ≡ g row
 each-row f g [] e row m = absurd (List·Memᴰ·not-nil m)
-each-row {A} f g (r ∷ rows) e row m =
+each-row f g (r ∷ rows) e row m =
     let first : f r ≡ g r = cc in
     let rest : map f rows ≡ map g rows = cc in
     ⊎-elim (λ h. ap f h ∙ first ∙ sym (ap g h)) (each-row f g rows rest row) (List·Memᴰ·cases-cons m)
@@ -74,18 +74,21 @@ abbrev inTable : ℕ → List TemplateRow → Template
 inTable number [] = NotListed
 inTable number (r ∷ rows) = cond (eqb number (r .number)) (Listed (r .part) (isTimed r)) (inTable number rows)
 
-found : (number : ℕ) (rows : List TemplateRow) → (inTable number rows ≡ NotListed) ⊎ ((row : TemplateRow) × List·Memᴰ row rows × (number ≡ row .number))
+-- a row of the table that has it
+abbrev RowOf : ℕ → List TemplateRow → Type 0
+RowOf number rows = (row : TemplateRow) × List·Memᴰ row rows × (number ≡ row .number)
+
+found : (number : ℕ) (rows : List TemplateRow) → (inTable number rows ≡ NotListed) ⊎ RowOf number rows
 found number [] = inl refl
 found number (r ∷ rows) = by-test (eqb number (r .number)) refl (found number rows)
   where
-    by-test : (t : Bool) → eqb number (r .number) ≡ t → (inTable number rows ≡ NotListed) ⊎ ((row : TemplateRow) × List·Memᴰ row rows × (number ≡ row .number))
-        → (cond t (Listed (r .part) (isTimed r)) (inTable number rows) ≡ NotListed) ⊎ ((row : TemplateRow) × List·Memᴰ row (r ∷ rows) × (number ≡ row .number))
+    by-test : (t : Bool) → eqb number (r .number) ≡ t → (inTable number rows ≡ NotListed) ⊎ RowOf number rows → (cond t (Listed (r .part) (isTimed r)) (inTable number rows) ≡ NotListed) ⊎ RowOf number (r ∷ rows)
     by-test true e rest = inr (r, List·Memᴰ·head refl, eqb-true _ _ e)
     by-test false e (inl none) = inl none
     by-test false e (inr one) = inr (one .0, List·Memᴰ·tail (one .1), one .2)
 
 -- a number is not listed, or it is a row's
-pub listed-or-not : (number : ℕ) → (templateOf number ≡ NotListed) ⊎ ((row : TemplateRow) × List·Memᴰ row templates₄ × (number ≡ row .number))
+pub listed-or-not : (number : ℕ) → (templateOf number ≡ NotListed) ⊎ RowOf number templates₄
 unfolding templateOf
 listed-or-not number = found number templates₄
 
