@@ -110,7 +110,7 @@ octets35to64 =
     ∷ run 61 4
     ∷ []
 
--- aerosol, and behind it what 12-34 has in the other templates: type of aerosol, of the interval of sizes; of each size: scale factor, value
+-- aerosol: type, type of the interval of sizes; of each size: scale factor, value; behind it, 13 octets later, what the others have at 12-34
 abbrev octets12to47 : List Run
 octets12to47 =
     run 12 2
