@@ -1,8 +1,9 @@
 -- Demand 3. The definitions in it: a card and the order of cards (`card/specs/Key.antt`), a shelf and joining two
--- (`shelf/specs/Shelves.antt`), what a slot must hold (`Keeps`, `shelf/specs/History.antt`), filing a field (`filing/specs/Filing.antt`) and
--- a queue (`queue/specs/Queues.antt`), what the counts are (`queue/specs/Counting.antt`, by `Said` of `filing/specs/Filing.antt`), and how a shelf came about
--- (`queue/specs/History.antt`). Of the entries for C: what they leave
--- (`skogmund/specs/Shelves.antt`), and the octets that say a history's shelf (`Leaves`, `Writes`, `demands/specs/Histories.antt`).
+-- (`shelf/specs/Shelves.antt`), what a slot must hold (`Keeps`, `shelf/specs/History.antt`), filing a field (`filing/specs/Filing.antt`) and when one can
+-- be filed (`FollowsFiling`, `filing/specs/Accepted.antt`), filing a queue (`queue/specs/Queues.antt`) and how one is written
+-- (`queue/specs/Spelled.antt`), what the counts are (`queue/specs/Counting.antt`, by `Said` of `filing/specs/Filing.antt`), and how a shelf came about
+-- (`queue/specs/History.antt`). Of the entries for C: what they leave (`skogmund/specs/Shelves.antt`), and the octets that say a history's shelf
+-- (`Leaves`, `Writes`, `demands/specs/Histories.antt`).
 -- Assumes nothing.
 
 -- of shelves as octets, which are stored or sent between two calls
@@ -43,6 +44,7 @@ use Rattle.shelf_octets.proofs.Laws.{tidy-in}
 use Rattle.filing.specs.Filing.{Filing, refusedFiling, accepted, issueOf, cardOf, cardAt, foreignCalendar, filingOf, filedBy, filedOf, Said}
 use Rattle.filing.specs.Accepted.{Gregorian, FollowsFiling, AcceptedFiling}
 use Rattle.filing.specs.declared.Issue.{Issue}
+use Rattle.filing.specs.declared.Issue.the-variants.{NotNamed}
 use Rattle.filing.proofs.CardOctets.{card-octets}
 use Rattle.filing.proofs.FiledExactlyWhen.{filed-exactly-when, filed-card, answered-exactly-when}
 use Rattle.filing.proofs.SaidOfTheSlots.{SlotThere, slot-there, said}
@@ -128,6 +130,10 @@ filing-accepted slot x = filed-exactly-when slot (x .issue) (x .s1) (x .s3) (x .
 
 pub filing-card : (slot : ℕ) (x : FiledField) (card : Card) → filingOf slot (x .issue) (x .s1) (x .s3) (x .s4) (x .s5) (x .s7) ≡ accepted card → (template : Template) → Follows₁ template (x .s1) → card ≡ cardAt template (x .s1) (issueOf (x .issue)) (x .s4)
 filing-card slot x = filed-card slot (x .issue) (x .s1) (x .s3) (x .s4) (x .s5) (x .s7)
+
+-- "A caller that names no issue gets issue 0"
+pub issue-not-named : issueOf NotNamed ≡ 0
+issue-not-named = refl
 
 -- of what the entries answer: it is kept or passed
 pub filing-answers : (s : Shelf) (slot : ℕ) (x : FiledField) (r : Filed) → r ≡ filedOf s slot (x .issue) (x .s1) (x .s3) (x .s4) (x .s5) (x .s7) → AcceptedFiling (r .answer) ↔ FollowsFiling slot (x .s1) (x .s3) (x .s4) (x .s5) (x .s7)
