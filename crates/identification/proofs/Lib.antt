@@ -4,3 +4,4 @@ pub mod AnswersDetermined
 pub mod StarredYears
 pub mod Entries
 pub mod RefusalNumbers
+pub mod MeansByName
