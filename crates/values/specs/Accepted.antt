@@ -20,7 +20,7 @@ use Rattle.packing.specs.Section5.{fields₅}
 use Rattle.packing.specs.Section7.{values₇}
 use Rattle.packing.specs.Accepted.{Follows₅, Follows₇alone}
 
--- sections 1, 3 and 4 follow one of their templates, and section 7 is alone; of another number no octets follow
+-- by the number that is asked for: sections 1, 3 and 4 with the template that they follow, and section 7 alone. No octets follow another number
 pub data FollowsNumbered (section : ℕ) (s : List ℕ) : Type 0 where
   section-1 : section ≡ 1 → (template : Template₁) → Follows₁ template s → FollowsNumbered section s
   section-3 : section ≡ 3 → (template : Template₃) → Follows₃ template s → FollowsNumbered section s
