@@ -13,7 +13,7 @@ use borrow.Author.Tests.{ltb-false, le-ltb}
 use Rattle.octets.specs.Octets.{beAt}
 use Rattle.octets.proofs.Laws.{beAt-drop, beAt-ahead, beAt-take}
 use Rattle.cutting.specs.Cuts.{noItem, item, cutOf, strung}
-use Rattle.cutting.specs.Sections.{stretch, sectionStep, endOf, endAfter}
+use Rattle.cutting.specs.Sections.{stretch, sectionStep, endOf, endAfter, Sized}
 use Rattle.cutting.proofs.Cuts.{Advances}
 use Rattle.cutting.proofs.Strung.{LooksNoFurther, Spells, each-item, cut-strung, strung-cut}
 
@@ -68,12 +68,7 @@ sections-look-no-further p q x end e =
     ∙ ap (λ (n : ℕ). item (take n (p ++ q)) n) (size ∙ i .size)
     ∙ ap (λ (y : List ℕ). item y end) (take-append-le end p q (omega (arith, w .inside, i .size)) ∙ sym (i .octets))
 
--- octets whose first four say how many they are
-pub record Sized (x : List ℕ) : Type 0 where
-  pub least : 5 ≤ length x
-  pub long : beAt x 1 4 ≡ length x
-
--- spell a section, and what is found is of this kind
+-- octets whose first four say how many they are spell a section, and what is found is of this kind
 pub sized-spells : (x : List ℕ) → Sized x → Spells sectionStep x x
 sized-spells x z rest =
     sections-look-no-further x rest x (length x)
@@ -94,7 +89,7 @@ pub cut-sections : (xs : List (List ℕ)) → ((x : List ℕ) → List·Memᴰ x
 cut-sections xs z = cut-strung sectionStep sections-advance (λ x. x) xs (λ x m. sized-spells x (z x m))
 
 pub sections-back : (s : List ℕ) → cutOf sectionStep s .whole ≡ true → (strung (λ x. x) (cutOf sectionStep s .items) ≡ s) × ((x : List ℕ) → List·Memᴰ x (cutOf sectionStep s .items) → Sized x)
-sections-back s w = (strung-cut sectionStep sections-advance (λ x. x) (λ s x end e. section-is s x end e .octets) s w, each-item sectionStep sections-advance Sized found-sized s)
+sections-back s w = (strung-cut sectionStep sections-advance (λ x. x) (λ s. Unit {0}) (λ s end f. tt) (λ s x end f e. section-is s x end e .octets) s tt w, each-item sectionStep sections-advance Sized found-sized s)
 
 -- ---- where the section ends that starts after so many octets
 

@@ -6,7 +6,7 @@ use mathlib.Core.Path.{_≡_, refl, ap, ap₂, sym, subst, _∙_}
 use mathlib.Core.Bool.{true, true≢false}
 use mathlib.Core.Logic.{⊎-elim}
 use mathlib.Core.List.{List, [], _∷_, _++_, List·Memᴰ, List·Memᴰ·head, List·Memᴰ·tail, List·Memᴰ·cases-cons, List·Memᴰ·not-nil}
-use lib.ListN.{length, take, take-append-drop}
+use lib.ListN.{length, take, drop, take-append-drop}
 use lib.Seq.{drop-append-seam, drop-append-le}
 use Rattle.cutting.specs.Cuts.{Step, noItem, item, Cut, inFront, cutOf, strung}
 use Rattle.cutting.proofs.Cuts.{Advances, cut-item, cut-stopped, cut-end, by-items, by-cut}
@@ -60,18 +60,19 @@ module _ {A : Type 0} (step : List ℕ → Step A) (adv : Advances step) where
         ∙ ap (λ (r : List ℕ). inFront x (cutOf step r)) (drop-append-seam (spell x) (strung spell xs))
         ∙ ap (inFront x) (cut-strung xs (λ y m. f y (List·Memᴰ·tail m)))
 
-    -- and what is cut into whole items is these items' octets
-    pub strung-cut : ((s : List ℕ) (x : A) (end : ℕ) → step s ≡ item x end → spell x ≡ take end s) → (s : List ℕ) → cutOf step s .whole ≡ true → strung spell (cutOf step s .items) ≡ s
+    -- and what is cut into whole items is these items' octets, where these are spelled in octets that are as they should be from each item on
+    pub strung-cut : (Fine : List ℕ → Type 0) → ((s : List ℕ) (end : ℕ) → Fine s → Fine (drop end s)) → ((s : List ℕ) (x : A) (end : ℕ) → Fine s → step s ≡ item x end → spell x ≡ take end s)
+        → (s : List ℕ) → Fine s → cutOf step s .whole ≡ true → strung spell (cutOf step s .items) ≡ s
     unfolding strung
-    strung-cut octets s w =
-        by-items step adv (λ s. cutOf step s .whole ≡ true → strung spell (cutOf step s .items) ≡ s)
+    strung-cut Fine behind octets s fine w =
+        by-items step adv (λ s. Fine s → cutOf step s .whole ≡ true → strung spell (cutOf step s .items) ≡ s)
         (record {
-          end = λ w. ap (λ (c : Cut A). strung spell (c .items)) (cut-end step adv [] (omega arith));
-          stopped = λ s l e w. absurd (not-whole s l e w);
-          more = λ s x end e others w.
+          end = λ f w. ap (λ (c : Cut A). strung spell (c .items)) (cut-end step adv [] (omega arith));
+          stopped = λ s l e f w. absurd (not-whole s l e w);
+          more = λ s x end e others f w.
               let here = cut-item step adv s x end e in
               ap (λ (c : Cut A). strung spell (c .items)) here
-              ∙ ap₂ (λ (a b : List ℕ). a ++ b) (octets s x end e) (others (sym (ap (λ (c : Cut A). c .whole) here) ∙ w))
+              ∙ ap₂ (λ (a b : List ℕ). a ++ b) (octets s x end f e) (others (behind s end f) (sym (ap (λ (c : Cut A). c .whole) here) ∙ w))
               ∙ take-append-drop end s;
         })
-        s w
+        s fine w

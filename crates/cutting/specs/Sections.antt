@@ -1,6 +1,7 @@
 -- Sections one after the other, as messages and bodies have them: octets 1-4 of a section say how many octets it has.
 -- Assumes nothing.
-use Prim.Native.Nat.{ℕ, _+_, _-_}
+use Prim.Native.Nat.{ℕ, _+_, _-_, _≤_}
+use mathlib.Core.Path.{_≡_}
 use mathlib.Core.List.{List}
 use mathlib.Core.Bool.{cond}
 use lib.Dec.{ltb}
@@ -11,6 +12,11 @@ use Rattle.cutting.specs.Cuts.{Step, noItem, item}
 -- the octets from index `start` up to index `end`
 abbrev pub stretch : List ℕ → ℕ → ℕ → List ℕ
 stretch s start end = take (end - start) (drop start s)
+
+-- a section by its own length octets: it has 5 octets or more, and its first four say how many
+pub record Sized (x : List ℕ) : Type 0 where
+  pub least : 5 ≤ length x
+  pub long : beAt x 1 4 ≡ length x
 
 -- the section at the start of these octets by its own length octets, or none: it would have under 5 octets, or more than there are
 unfoldable pub sectionStep : List ℕ → Step (List ℕ)

@@ -10,12 +10,14 @@ pub use Rattle.demands.proofs.ShelvesAsOctets.{history-read-back, octet
 -- of the entries for C, which leave the octets of a history's shelf
 pub use Rattle.demands.proofs.ShelvesForC.{c-empties, c-joins, c-files, c-files-queue, c-shows}
 -- The rest are the theorems of this file.
-use Prim.Native.Nat.{ℕ, _<_}
+use Prim.Native.Nat.{ℕ, _<_, _≤_}
 use mathlib.Core.Path.{_≡_, refl, sym, ap, subst, _∙_}
-use mathlib.Core.Bool.{Bool, false, cond}
+use mathlib.Core.Logic.{_↔_, _⊎_}
+use mathlib.Core.Bool.{Bool, true, false, cond}
 use mathlib.Core.List.{List, [], _∷_, _++_, List·Memᴰ, append-nil}
 use lib.Dec.{eqb}
 use lib.ListN.{length}
+use Rattle.octets.specs.Octets.{AllOctets}
 use Rattle.layout.specs.Fields.{Value}
 use Rattle.layout.specs.Outcomes.{read}
 use Rattle.identification.specs.Section1.{outcome₁}
@@ -26,13 +28,17 @@ use Rattle.shelf.specs.Shelves.{emptyShelf, slotAt, joinShelf}
 use Rattle.shelf.specs.History.{Keeps}
 use Rattle.shelf.specs.declared.Shelf.{Shelf}
 use Rattle.shelf.proofs.Laws.{shelf-join}
-use Rattle.filing.specs.Filing.{Filing, refusedFiling, cardOf, cardAt, foreignCalendar, foreignAt, filingOf, filedBy, filedOf, Said}
+use Rattle.filing.specs.Filing.{Filing, refusedFiling, accepted, issueOf, cardOf, cardAt, foreignCalendar, filingOf, filedBy, filedOf, Said}
+use Rattle.filing.specs.Accepted.{Gregorian, FollowsFiling, AcceptedFiling}
+use Rattle.filing.specs.declared.Issue.{Issue}
 use Rattle.filing.proofs.CardOctets.{card-octets}
+use Rattle.filing.proofs.FiledExactlyWhen.{filed-exactly-when, filed-card, answered-exactly-when}
 use Rattle.filing.proofs.SaidOfTheSlots.{said}
 use Rattle.filing.specs.declared.Filed.{Filed}
 use Rattle.cutting.specs.Cuts.{cutOf}
-use Rattle.cutting.specs.Sections.{stretch}
+use Rattle.cutting.specs.Sections.{stretch, Sized}
 use Rattle.queue.specs.Queues.{Sent, bodyFiling, recordFiling, recordFiled, recordStep, recordsFiled, fromStart, queueRefusal, refusedQueue, acceptedQueue, queueFiled}
+use Rattle.queue.specs.Spelled.{spelledAll, AllSpellable, backToBack, FiveSections}
 use Rattle.queue.specs.Counting.{Reports}
 use Rattle.queue.specs.Bodies.{bodyOf}
 use Rattle.queue.specs.declared.Body.{Body}
@@ -43,6 +49,8 @@ use Rattle.queue.specs.declared.QueueAnswer.the-variants.{Filed as filedAll}
 use Rattle.queue.specs.declared.QueueFiled.{QueueFiled}
 use Rattle.queue.specs.History.{FiledField, History, start, file, queue, join, shelfOf, acceptedAt, acceptedIn, acceptedOf}
 use Rattle.queue.proofs.Histories.{tidy, greatest-card as greatest, any-order as in-any-order}
+use Rattle.queue.proofs.Spelled.{cut-spelled, spelled-again, all-spellable, accepted-exactly-when, filed-spelled}
+use Rattle.queue.proofs.FiveSections.{five-filed, five-or-20, record-accepted as accepted-record}
 use Rattle.queue.proofs.Counting.{queue-counts}
 use Rattle.queue.proofs.QueueIsJoining.{queue-is-joining as is-joining}
 use Rattle.queue.proofs.RecordsAsCards.{as-if-never-sent}
@@ -91,10 +99,48 @@ made-by-record h x r e = by-body (bodyOf (x .body)) refl
           accepted-by (Five ends) f,
         )
 
+-- ---- "ever accepted": a field is filed exactly when there is such a slot, its five sections follow, and the calendar is absent or 0, and then
+-- with the card of its octets
+
+pub filing-accepted : (slot : ℕ) (x : FiledField) → ((card : Card) × (filingOf slot (x .issue) (x .s1) (x .s3) (x .s4) (x .s5) (x .s7) ≡ accepted card)) ↔ FollowsFiling slot (x .s1) (x .s3) (x .s4) (x .s5) (x .s7)
+filing-accepted slot x = filed-exactly-when slot (x .issue) (x .s1) (x .s3) (x .s4) (x .s5) (x .s7)
+
+pub filing-card : (slot : ℕ) (x : FiledField) (card : Card) → filingOf slot (x .issue) (x .s1) (x .s3) (x .s4) (x .s5) (x .s7) ≡ accepted card → (template : Template) → Follows₁ template (x .s1) → card ≡ cardAt template (x .s1) (issueOf (x .issue)) (x .s4)
+filing-card slot x = filed-card slot (x .issue) (x .s1) (x .s3) (x .s4) (x .s5) (x .s7)
+
+-- of what the entries answer: it is kept or passed
+pub filing-answers : (s : Shelf) (slot : ℕ) (x : FiledField) (r : Filed) → r ≡ filedOf s slot (x .issue) (x .s1) (x .s3) (x .s4) (x .s5) (x .s7) → AcceptedFiling (r .answer) ↔ FollowsFiling slot (x .s1) (x .s3) (x .s4) (x .s5) (x .s7)
+filing-answers s slot x = answered-exactly-when slot (x .issue) (x .s1) (x .s3) (x .s4) (x .s5) (x .s7) s
+
+-- a queue is accepted exactly when it has at most 65,536 octets and is written by records, and these are the ones that are filed; what it is cut
+-- into, written again, is the queue
+pub queue-accepted : (q : List ℕ) → AllOctets q → (queueRefusal q ≡ 0) ↔ ((length q ≤ 65536) × ((rs : List Sent) × AllSpellable rs × (q ≡ spelledAll rs)))
+queue-accepted = accepted-exactly-when
+
+pub queue-cut : (rs : List Sent) → AllSpellable rs → cutOf recordStep (spelledAll rs) ≡ record { items = rs; whole = true }
+queue-cut = cut-spelled
+
+pub queue-written-again : (q : List ℕ) → AllOctets q → cutOf recordStep q .whole ≡ true → (spelledAll (cutOf recordStep q .items) ≡ q) × AllSpellable (cutOf recordStep q .items)
+queue-written-again q o w = (spelled-again q o w, all-spellable q)
+
+pub queue-of-records : (s : Shelf) (rs : List Sent) → AllSpellable rs → length (spelledAll rs) ≤ 65536 → queueFiled s (spelledAll rs) ≡ acceptedQueue (recordsFiled (fromStart s) rs)
+queue-of-records = filed-spelled
+
+-- five sections back to back are a record's body and filed as these; a body that is not exactly five is refused with 20
+pub record-of-five : (slot : ℕ) (issue : Issue) (s1 s3 s4 s5 s7 : List ℕ) → Sized s1 → Sized s3 → Sized s4 → Sized s5 → Sized s7
+    → recordFiling (record { slot = slot; issue = issue; body = backToBack s1 s3 s4 s5 s7 }) ≡ filingOf slot issue s1 s3 s4 s5 s7
+record-of-five slot issue s1 s3 s4 s5 s7 z1 z3 z4 z5 z7 = five-filed s1 s3 s4 s5 s7 z1 z3 z4 z5 z7 slot issue
+
+pub record-five-or-20 : (r : Sent) → ((x : FiveSections (r .body)) × (recordFiling r ≡ filingOf (r .slot) (r .issue) (x .s1) (x .s3) (x .s4) (x .s5) (x .s7))) ⊎ ((FiveSections (r .body) → ⊥) × (recordFiling r ≡ refusedFiling 20 0 0))
+record-five-or-20 = five-or-20
+
+pub record-accepted : (r : Sent) → ((card : Card) × (recordFiling r ≡ accepted card)) ↔ ((x : FiveSections (r .body)) × FollowsFiling (r .slot) (x .s1) (x .s3) (x .s4) (x .s5) (x .s7))
+record-accepted = accepted-record
+
 -- ---- a card: the real reference time, the issue and octets 8-34 of section 4, by octet numbers; 17 looks at octet 24
 
 pub card-by-octets : (s1 : List ℕ) (one : List Value) (issue : ℕ) (s4 : List ℕ) → outcome₁ s1 ≡ read one →
-    (template : Template) × Follows₁ template s1 × (cardOf one issue s4 ≡ cardAt template s1 issue s4) × (foreignCalendar one ≡ foreignAt template s1)
+    (template : Template) × Follows₁ template s1 × (cardOf one issue s4 ≡ cardAt template s1 issue s4) × ((foreignCalendar one ≡ false) ↔ Gregorian template s1)
 card-by-octets = card-octets
 
 -- ---- "each slot holds the greatest card ever accepted for it, here or in a shelf joined in directly or through others, or is empty"

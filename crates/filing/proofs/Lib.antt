@@ -3,3 +3,4 @@ pub mod CardOctets
 pub mod Entries
 pub mod RefusalNumbers
 pub mod StoredIssues
+pub mod FiledExactlyWhen

@@ -11,7 +11,6 @@ use Rattle.layout.specs.Fields.{Value, naturalIn}
 use Rattle.layout.specs.Outcomes.{refusal}
 use Rattle.identification.specs.Section1.{realYearAt, realYearOf, monthOf, dayOf, hourOf, minuteOf, secondOf, calendarOf}
 use Rattle.identification.specs.declared.Template.{Template}
-use Rattle.identification.specs.declared.Template.the-variants.{None as noTemplate, Calendar, Offset, CalendarAndOffset}
 use Rattle.field.specs.Field.{FieldOutcome, refusedField, readField, fieldOutcome}
 use Rattle.card.specs.declared.Card.{Card}
 use Rattle.shelf.specs.Shelves.{slotAt, putOf}
@@ -76,13 +75,6 @@ cardAt template s1 issue s4 =
 -- the calendar of section 1 is present and not 0; one that is not there says no number, which counts as 0
 abbrev pub foreignCalendar : List Value → Bool
 foreignCalendar one = not (eqb (naturalIn (calendarOf one)) 0)
-
--- the same by the octets of section 1
-abbrev pub foreignAt : Template → List ℕ → Bool
-foreignAt noTemplate s1 = false
-foreignAt Calendar s1 = not (eqb (beAt s1 24 1) 0)
-foreignAt Offset s1 = false
-foreignAt CalendarAndOffset s1 = not (eqb (beAt s1 24 1) 0)
 
 -- a refusal's number, section and place, or the card that is accepted
 pub data Filing : Type 0 where

@@ -1,2 +1,3 @@
 pub mod Filing
 pub mod Refused
+pub mod Accepted

@@ -5,3 +5,4 @@ pub mod StarredYears
 pub mod Entries
 pub mod RefusalNumbers
 pub mod MeansByName
+pub mod OneTemplate

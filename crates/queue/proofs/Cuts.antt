@@ -99,7 +99,7 @@ record-in p q h e =
 -- ---- so a queue is cut into records as octets are into items
 
 -- by what is found of a record
-by-record : (s : List ℕ) (x : Sent) (end : ℕ) → recordStep s ≡ item x end → (h : Head) × (recordOf s ≡ Whole h) × (item (recordIn s h) (h .end) ≡ item x end)
+pub by-record : (s : List ℕ) (x : Sent) (end : ℕ) → recordStep s ≡ item x end → (h : Head) × (recordOf s ≡ Whole h) × (item (recordIn s h) (h .end) ≡ item x end)
 unfolding recordStep
 by-record s x end e = by (recordOf s) refl e
   where

@@ -8,3 +8,5 @@ pub mod Concatenation
 pub mod StarredQueues
 pub mod Entries
 pub mod RefusalNumbers
+pub mod Spelled
+pub mod FiveSections

@@ -5,3 +5,4 @@ pub mod Counting
 pub mod History
 pub mod Examples
 pub mod Refused
+pub mod Spelled
