@@ -7,16 +7,14 @@
 -- "What is read out is what those octets mean.", of C: it is told the record's numbers, exactly where the section follows (`FollowsNumbered`,
 -- `values/specs/Accepted.antt`) and there is room.
 pub use Rattle.skogmund.proofs.RecordTold.{told-exactly-when, record-told, told-record}
--- "follows the WMO FM 92 template layouts": the first octet of each field of each template, as the layouts have them
-pub use Rattle.product.proofs.FieldsCoverOnce.{at-4-0, at-4-1, at-4-4, at-4-5, at-4-8, at-4-9, at-4-11, at-4-14, at-4-46}
--- and of section 4: the total and n that refusals look at are those of document 01's table, the forecast time that of the layouts
--- (`product/specs/Accepted.antt`)
-pub use Rattle.product.proofs.AcceptedExactlyWhen.{table-places, table-total}
+-- "follows the WMO FM 92 template layouts", of section 4: exactly the templates of document 01's table (`product/specs/Table.antt`) are listed, each
+-- with the table's part, and the total and n that refusals look at are the table's, the forecast time that of the layouts
+pub use Rattle.product.proofs.TableAgrees.{table-listed, table-only, table-process, table-count, table-total}
 -- The rest are the theorems of this file.
 use Prim.Native.Nat.{ℕ, zero, suc, _+_, _-_, _*_, _<_, _≤_}
 use native.Mathlib.Omega.{arith}
 use mathlib.Core.Path.{_≡_, refl, sym, ap, subst, _∙_}
-use mathlib.Core.Bool.{Bool, true, cond}
+use mathlib.Core.Bool.{true, cond}
 use mathlib.Core.Logic.{_↔_}
 use mathlib.Core.List.{List, [], _∷_}
 use lib.Dec.{eqb}
@@ -24,7 +22,7 @@ use lib.ListN.{length, getD, take, drop, replicate}
 use borrow.Author.Tests.{ne-eqb}
 use Rattle.octets.specs.Octets.{part, beAt}
 use Rattle.octets.proofs.Laws.{part-take}
-use Rattle.layout.specs.Fields.{Value, after, valuesOf, octetsOf, Covered}
+use Rattle.layout.specs.Fields.{Value, after, valuesOf, Covered}
 use Rattle.layout.specs.Outcomes.{Outcome, refused, read}
 use Rattle.layout.proofs.Outcomes.{NoneHold, read-none}
 use Rattle.layout.specs.Shown.{shownOf}
@@ -55,17 +53,19 @@ use Rattle.grid.proofs.FieldsCoverOnce.{covered₃}
 use Rattle.grid.proofs.MeansByName.{means₃}
 use Rattle.grid.proofs.ListShown.{those-very-octets, without-a-list, points-are-its-sum, refused-shows-none}
 use Rattle.product.specs.Blocks.{valuesIn as valuesIn₄}
-use Rattle.product.specs.Templates.{rangesAt, membersAt, fieldsIn, values₄}
+use Rattle.product.specs.Templates.{fieldsIn, values₄}
+use Rattle.product.specs.Table.{octet, TemplateRow, countIn, isTimed, octets₄}
 use Rattle.product.specs.Section4 as four
 use Rattle.product.specs.Views.{rangeOf, membersOf, coordinatesOf, firstStrung}
 use Rattle.product.specs.Accepted.{Follows₄}
+use Rattle.product.specs.Means.{Means₄}
 use Rattle.product.specs.declared.Answer.{Answer as Answer₄}
 use Rattle.product.specs.declared.Answer.the-variants.{Read as Read₄}
 use Rattle.product.specs.declared.blocks.Product.{Product}
-use Rattle.product.specs.declared.templates.PartKind.{PartKind}
-use Rattle.product.proofs.AcceptedExactlyWhen.{accepted-exactly-when as exactly₄, accepted-follows as follows₄, follows-total}
-use Rattle.product.proofs.FieldsCoverOnce.{covered as covered₄}
-use Rattle.product.proofs.ViewsAreTheLayouts.{views-shown, range-whole, no-range, no-members, refused-nothing}
+use Rattle.product.proofs.AcceptedExactlyWhen.{accepted-exactly-when as exactly₄, accepted-follows as follows₄}
+use Rattle.product.proofs.FieldsCoverOnce.{covered₄}
+use Rattle.product.proofs.MeansByName.{means₄}
+use Rattle.product.proofs.ViewsAreTheLayouts.{views-shown, range-stands, members-stand, coordinates-stand, range-whole, no-range, no-members, refused-nothing}
 use Rattle.lent.proofs.Rows.{each-filled}
 use Rattle.packing.specs.Packed.{bitAt, bitsFrom, packedAt, unpacked}
 use Rattle.packing.specs.Unpacking.{toldUnpacked, Unpacks}
@@ -122,7 +122,7 @@ section-1-accepted s a e = by-outcome e (exactly₁ s)
 pub section-3-accepted : (s : List ℕ) (a : Answer₃) → three.told a ≡ three.outcome₃ s → Accepted (three.told a) ↔ ((template : Template₃) × Follows₃ template s)
 section-3-accepted s a e = by-outcome e (exactly₃ s)
 
-pub section-4-accepted : (s : List ℕ) (a : Answer₄) → four.told a ≡ four.outcome₄ s → Accepted (four.told a) ↔ ((kind : PartKind) × (timed : Bool) × Follows₄ kind timed s)
+pub section-4-accepted : (s : List ℕ) (a : Answer₄) → four.told a ≡ four.outcome₄ s → Accepted (four.told a) ↔ ((row : TemplateRow) × Follows₄ row s)
 section-4-accepted s a e = by-outcome e (exactly₄ s)
 
 pub section-5-accepted : (s : List ℕ) (a : Answer₅) → five.told₅ a ≡ five.outcome₅ s → Accepted (five.told₅ a) ↔ Follows₅ s
@@ -141,8 +141,8 @@ field-accepted s1 s3 s4 s5 s7 a e =
     ((λ x. w .0 (subst AcceptedField e x)), (λ f. subst AcceptedField (sym e) (w .1 f)))
 
 -- ---- "its length is the template's octet count for its own repeat counts": `whole` of each `Follows…`. "and its fields cover every octet
--- once": the fields stand at the octets that document 01 numbers (`octets…`, `specs/Accepted.antt` of each crate), these are 1 to the length, each
--- once, and the octets of the fields, strung together, are the section
+-- once": the fields stand at the octets that document 01 numbers (`octets…`, `specs/Accepted.antt` of each crate, and of
+-- section 4 `product/specs/Table.antt`), these are 1 to the length, each once, and the octets of the fields, strung together, are the section
 
 pub section-1-covered : (template : Template₁) (s : List ℕ) → Follows₁ template s → Covered (after 0 (one.fields₁ template)) (octets₁ template) s
 section-1-covered template s f = covered₁ template s (f .whole)
@@ -150,8 +150,9 @@ section-1-covered template s f = covered₁ template s (f .whole)
 pub section-3-covered : (template : Template₃) (s : List ℕ) → Follows₃ template s → Covered (after 0 (fields₃ template (listOctets s))) (octets₃ template (listOctets s)) s
 section-3-covered template s f = covered₃ template (listOctets s) s (all-fits template s (f .list) .whole)
 
-pub section-4-covered : (kind : PartKind) (timed : Bool) (s : List ℕ) → Follows₄ kind timed s → octetsOf (after 0 (fieldsIn kind timed s)) s ≡ s
-section-4-covered kind timed s f = covered₄ kind timed _ _ _ s (follows-total kind timed s f)
+-- by the template's number, with the section's own n, Nc and NV
+pub section-4-covered : (row : TemplateRow) (s : List ℕ) → Follows₄ row s → Covered (after 0 (fieldsIn (row .part) (isTimed row) s)) (octets₄ (row .number) (countIn (row .ranges) s) (countIn (row .members) s) (beAt s 6 2)) s
+section-4-covered = covered₄
 
 pub section-5-covered : (s : List ℕ) → Follows₅ s → Covered (after 0 five.fields₅) octets₅ s
 section-5-covered s f = covered₅ s (f .whole)
@@ -173,7 +174,7 @@ pub section-3-means : (s : List ℕ) (x : Grid) → three.told (Read₃ x) ≡ t
 unfolding three.told
 section-3-means s x e = follows₃ s (valuesIn₃ x) (sym e)
 
-pub section-4-means : (s : List ℕ) (x : Product) → four.told (Read₄ x) ≡ four.outcome₄ s → (kind : PartKind) × (timed : Bool) × Follows₄ kind timed s × (valuesIn₄ x ≡ values₄ kind timed s)
+pub section-4-means : (s : List ℕ) (x : Product) → four.told (Read₄ x) ≡ four.outcome₄ s → (row : TemplateRow) × Follows₄ row s × (valuesIn₄ x ≡ values₄ (row .part) (isTimed row) s)
 unfolding four.told
 section-4-means s x e = follows₄ s (valuesIn₄ x) (sym e)
 
@@ -198,6 +199,11 @@ section-1-by-name s x e = let a = section-1-means s x e in (a .0, a .1, means₁
 
 pub section-3-by-name : (s : List ℕ) (x : Grid) → three.told (Read₃ x) ≡ three.outcome₃ s → (template : Template₃) × Follows₃ template s × Means₃ template x s
 section-3-by-name s x e = let a = section-3-means s x e in (a .0, a .1, means₃ (a .0) s x (a .2))
+
+pub section-4-by-name : (s : List ℕ) (x : Product) → four.told (Read₄ x) ≡ four.outcome₄ s → (row : TemplateRow) × Follows₄ row s × Means₄ row x s
+section-4-by-name s x e =
+    let f = section-4-means s x e in
+    (f .0, f .1, means₄ (f .0) (f .1 .listed) s x (f .2))
 
 pub section-5-by-name : (s : List ℕ) (x : Packing) → five.told₅ (Read₅ x) ≡ five.outcome₅ s → Means₅ x s
 section-5-by-name s x e = means₅ s x (section-5-means s x e .1)
@@ -236,17 +242,27 @@ pub no-list-of-section-3 : (s : List ℕ) (number section place : ℕ) → three
 no-list-of-section-3 = refused-shows-none
 
 -- the time ranges, strung together, the members and the coordinates are the octets that the layout shows, in their order
-pub views-of-section-4 : (kind : PartKind) (timed : Bool) (s : List ℕ) → Follows₄ kind timed s → shownOf (after 0 (fieldsIn kind timed s)) s ≡ firstStrung (rangeOf s) (rangesAt kind timed s) ∷ membersOf s ∷ coordinatesOf s ∷ []
+pub views-of-section-4 : (row : TemplateRow) (s : List ℕ) → Follows₄ row s → shownOf (after 0 (fieldsIn (row .part) (isTimed row) s)) s ≡ firstStrung (rangeOf s) (countIn (row .ranges) s) ∷ membersOf s ∷ coordinatesOf s ∷ []
 views-of-section-4 = views-shown
 
-pub range-has-12 : (kind : PartKind) (timed : Bool) (s : List ℕ) → Follows₄ kind timed s → (k : ℕ) → k < rangesAt kind timed s → length (rangeOf s k) ≡ 12
+-- by octet numbers: if n stands at octet p, the ranges start at p + 5; the members follow them, and then the coordinates
+pub range-by-octet : (row : TemplateRow) (s : List ℕ) → Follows₄ row s → (p : ℕ) → row .ranges ≡ octet p → (k : ℕ) → k < beAt s p 1 → rangeOf s k ≡ part s (p + 5 + 12 * k) 12
+range-by-octet = range-stands
+
+pub members-by-octet : (row : TemplateRow) (s : List ℕ) → Follows₄ row s → membersOf s ≡ part s (row .octets + 12 * countIn (row .ranges) s + 1) (countIn (row .members) s)
+members-by-octet = members-stand
+
+pub coordinates-by-octet : (row : TemplateRow) (s : List ℕ) → Follows₄ row s → coordinatesOf s ≡ part s (row .octets + 12 * countIn (row .ranges) s + countIn (row .members) s + 1) (4 * beAt s 6 2)
+coordinates-by-octet = coordinates-stand
+
+pub range-has-12 : (row : TemplateRow) (s : List ℕ) → Follows₄ row s → (k : ℕ) → k < countIn (row .ranges) s → length (rangeOf s k) ≡ 12
 range-has-12 = range-whole
 
-pub no-range-from-n-up : (kind : PartKind) (timed : Bool) (s : List ℕ) → Follows₄ kind timed s → (k : ℕ) → rangesAt kind timed s ≤ k → rangeOf s k ≡ []
+pub no-range-from-n-up : (row : TemplateRow) (s : List ℕ) → Follows₄ row s → (k : ℕ) → countIn (row .ranges) s ≤ k → rangeOf s k ≡ []
 no-range-from-n-up = no-range
 
 -- a template without members, and one that counts none
-pub no-members-of-section-4 : (kind : PartKind) (timed : Bool) (s : List ℕ) → Follows₄ kind timed s → membersAt kind s ≡ 0 → membersOf s ≡ []
+pub no-members-of-section-4 : (row : TemplateRow) (s : List ℕ) → Follows₄ row s → countIn (row .members) s ≡ 0 → membersOf s ≡ []
 no-members-of-section-4 = no-members
 
 pub no-views-of-section-4 : (s : List ℕ) (number section place : ℕ) → four.outcome₄ s ≡ refused number section place → ((k : ℕ) → rangeOf s k ≡ []) × (membersOf s ≡ []) × (coordinatesOf s ≡ [])

@@ -2,21 +2,23 @@
 -- (`shelf/specs/Shelves.antt`), what a slot must hold (`Keeps`, `shelf/specs/History.antt`), filing a field (`filing/specs/Filing.antt`) and
 -- a queue (`queue/specs/Queues.antt`), what the counts are (`queue/specs/Counting.antt`, by `Said` of `filing/specs/Filing.antt`), and how a shelf came about
 -- (`queue/specs/History.antt`). Of the entries for C: what they leave
--- (`skogmund/specs/Shelves.antt`), and the octets of a history's shelf (`Leaves`, `demands/specs/Histories.antt`).
+-- (`skogmund/specs/Shelves.antt`), and the octets that say a history's shelf (`Leaves`, `Writes`, `demands/specs/Histories.antt`).
 -- Assumes nothing.
 
 -- of shelves as octets, which are stored or sent between two calls
-pub use Rattle.demands.proofs.ShelvesAsOctets.{history-read-back, octets-greatest-card, octets-join-commutes, octets-join-associates, octets-join-idempotent}
+pub use Rattle.demands.proofs.ShelvesAsOctets.{history-read-back, octets-greatest-card, zeroed-writes, none-held-leaves, any-octets-leave, octets-queue-is-joining, octets-queue-again, octets-join-commutes, octets-join-associates, octets-join-idempotent}
 -- of the entries for C, which leave the octets of a history's shelf
 pub use Rattle.demands.proofs.ShelvesForC.{c-empties, c-joins, c-files, c-files-queue, c-shows}
 -- The rest are the theorems of this file.
 use Prim.Native.Nat.{ℕ, _<_, _≤_}
-use mathlib.Core.Path.{_≡_, refl, sym, ap, subst, _∙_}
-use mathlib.Core.Logic.{_↔_, _⊎_}
+use mathlib.Core.Path.{_≡_, refl, sym, ap, subst, subst⁻¹, _∙_}
 use mathlib.Core.Bool.{Bool, true, false, cond}
-use mathlib.Core.List.{List, [], _∷_, _++_, List·Memᴰ, append-nil}
-use lib.Dec.{eqb}
-use lib.ListN.{length}
+use mathlib.Core.List.{List, [], _∷_, _++_, map, List·Memᴰ, append-nil}
+use mathlib.Core.Logic.{_↔_, _⊎_, _≢_}
+use lib.Dec.{ltb, eqb}
+use lib.IntN.{pos}
+use lib.ListN.{length, take, getD}
+use lib.Signed.{ltZ}
 use Rattle.octets.specs.Octets.{AllOctets}
 use Rattle.layout.specs.Fields.{Value}
 use Rattle.layout.specs.Outcomes.{read}
@@ -24,16 +26,26 @@ use Rattle.identification.specs.Section1.{outcome₁}
 use Rattle.identification.specs.Accepted.{Follows₁}
 use Rattle.identification.specs.declared.Template.{Template}
 use Rattle.card.specs.declared.Card.{Card}
-use Rattle.shelf.specs.Shelves.{emptyShelf, slotAt, joinShelf}
+use Rattle.card.specs.Order.{lex}
+use Rattle.card.specs.Key.{timeOf, SameTime, keyOf, lessCard}
+use Rattle.card.proofs.Strict.{asym, either-less}
+use Rattle.card.proofs.Lex.{lex-front}
+use Rattle.card.proofs.Cards.{key-decides, number-decides, key-at, card-strict}
+use Rattle.shelf.specs.Shelves.{lessSlot, holding, emptyShelf, slotAt, putOf, joinShelf}
 use Rattle.shelf.specs.History.{Keeps}
+use Rattle.shelf.specs.declared.Slot.{Slot}
 use Rattle.shelf.specs.declared.Shelf.{Shelf}
-use Rattle.shelf.proofs.Laws.{shelf-join}
+use Rattle.shelf.specs.declared.PutDone.{PutDone}
+use Rattle.shelf.proofs.Slots.{empty-below, slot-same}
+use Rattle.shelf.proofs.Laws.{shelf-join, unchanged-same, changed-differs}
+use Rattle.shelf_octets.specs.ShelfOctets.{shelfIn}
+use Rattle.shelf_octets.proofs.Laws.{tidy-in}
 use Rattle.filing.specs.Filing.{Filing, refusedFiling, accepted, issueOf, cardOf, cardAt, foreignCalendar, filingOf, filedBy, filedOf, Said}
 use Rattle.filing.specs.Accepted.{Gregorian, FollowsFiling, AcceptedFiling}
 use Rattle.filing.specs.declared.Issue.{Issue}
 use Rattle.filing.proofs.CardOctets.{card-octets}
 use Rattle.filing.proofs.FiledExactlyWhen.{filed-exactly-when, filed-card, answered-exactly-when}
-use Rattle.filing.proofs.SaidOfTheSlots.{said}
+use Rattle.filing.proofs.SaidOfTheSlots.{SlotThere, slot-there, said}
 use Rattle.filing.specs.declared.Filed.{Filed}
 use Rattle.cutting.specs.Cuts.{cutOf}
 use Rattle.cutting.specs.Sections.{stretch, Sized}
@@ -47,19 +59,24 @@ use Rattle.queue.specs.declared.Counts.{Counts}
 use Rattle.queue.specs.declared.QueueAnswer.{QueueAnswer}
 use Rattle.queue.specs.declared.QueueAnswer.the-variants.{Filed as filedAll}
 use Rattle.queue.specs.declared.QueueFiled.{QueueFiled}
-use Rattle.queue.specs.History.{FiledField, History, start, file, queue, join, shelfOf, acceptedAt, acceptedIn, acceptedOf}
+use Rattle.queue.specs.History.{FiledField, History, start, put, file, queue, join, shelfOf, acceptedAt, acceptedIn, acceptedOf}
 use Rattle.queue.proofs.Histories.{tidy, greatest-card as greatest, any-order as in-any-order}
 use Rattle.queue.proofs.Spelled.{cut-spelled, spelled-again, all-spellable, accepted-exactly-when, filed-spelled}
 use Rattle.queue.proofs.FiveSections.{five-filed, five-or-20, record-accepted as accepted-record}
 use Rattle.queue.proofs.Counting.{queue-counts}
-use Rattle.queue.proofs.QueueIsJoining.{queue-is-joining as is-joining}
-use Rattle.queue.proofs.RecordsAsCards.{as-if-never-sent}
+use Rattle.queue.proofs.QueueIsJoining.{queue-is-joining as is-joining, queue-again as once-more}
+use Rattle.queue.proofs.HeldCards.{cardsPut, tidy-is-history}
+use Rattle.queue.proofs.RecordsAsCards.{as-if-never-sent, record-there}
 
 -- ---- "After any fields and queues filed and any shelves joined": what the entries make is the end of a history
 
 pub made-by-empty : (r : Shelf) → r ≡ emptyShelf → r ≡ shelfOf start
 unfolding shelfOf
 made-by-empty r e = e
+
+pub made-by-putting : (h : History) (slot : ℕ) (card : Card) (r : PutDone) → r ≡ putOf (shelfOf h) slot card → r .shelf ≡ shelfOf (put slot card h)
+unfolding shelfOf
+made-by-putting h slot card r e = ap (λ (y : PutDone). y .shelf) e
 
 pub made-by-filing : (h : History) (slot : ℕ) (x : FiledField) (r : Filed) → r ≡ filedOf (shelfOf h) slot (x .issue) (x .s1) (x .s3) (x .s4) (x .s5) (x .s7) → r .shelf ≡ shelfOf (file slot x h)
 unfolding shelfOf
@@ -72,6 +89,10 @@ made-by-queue h q r e = ap (λ (y : QueueFiled). y .shelf) e
 pub made-by-joining : (g h : History) (r : Shelf) → r ≡ joinShelf (shelfOf g) (shelfOf h) → r ≡ shelfOf (join g h)
 unfolding shelfOf
 made-by-joining g h r e = e
+
+-- a shelf that is read from octets, whatever they are: its cards were put
+pub made-by-reading : (o : List ℕ) (r : Shelf) → r ≡ shelfIn o → (h : History) × (r ≡ shelfOf h)
+made-by-reading o r e = (cardsPut 64 (shelfIn o), e ∙ sym (tidy-is-history (shelfIn o) (tidy-in o)))
 
 -- a record that is filed by itself: its five sections are a field, with which the history goes on, or it is refused with 20
 pub made-by-record : (h : History) (x : Sent) (r : Filed) → r ≡ recordFiled (shelfOf h) x
@@ -143,6 +164,77 @@ pub card-by-octets : (s1 : List ℕ) (one : List Value) (issue : ℕ) (s4 : List
     (template : Template) × Follows₁ template s1 × (cardOf one issue s4 ≡ cardAt template s1 issue s4) × ((foreignCalendar one ≡ false) ↔ Gregorian template s1)
 card-by-octets = card-octets
 
+-- ---- "Order: real year, month, day, hour, minute, second, issue, all as numbers, then the 27 octets from the left": the first of these in which
+-- two cards differ decides, and real years have a sign
+
+pub year-decides : (a b : Card) → a .year ≢ b .year → lessCard a b ≡ ltZ (a .year) (b .year)
+unfolding keyOf
+year-decides a b d = key-decides a b [] [] (a .year) (b .year) _ _ refl refl refl d
+
+pub month-decides : (a b : Card) → a .year ≡ b .year → a .month ≢ b .month → lessCard a b ≡ ltb (a .month) (b .month)
+unfolding keyOf
+month-decides a b year d = number-decides a b _ _ (a .month) (b .month) _ _ refl refl (λ i. year i ∷ []) d
+
+pub day-decides : (a b : Card) → a .year ≡ b .year → a .month ≡ b .month → a .day ≢ b .day → lessCard a b ≡ ltb (a .day) (b .day)
+unfolding keyOf
+day-decides a b year month d = number-decides a b _ _ (a .day) (b .day) _ _ refl refl (λ i. year i ∷ pos (month i) ∷ []) d
+
+pub hour-decides : (a b : Card) → a .year ≡ b .year → a .month ≡ b .month → a .day ≡ b .day → a .hour ≢ b .hour → lessCard a b ≡ ltb (a .hour) (b .hour)
+unfolding keyOf
+hour-decides a b year month day d = number-decides a b _ _ (a .hour) (b .hour) _ _ refl refl (λ i. year i ∷ pos (month i) ∷ pos (day i) ∷ []) d
+
+pub minute-decides : (a b : Card) → a .year ≡ b .year → a .month ≡ b .month → a .day ≡ b .day → a .hour ≡ b .hour → a .minute ≢ b .minute → lessCard a b ≡ ltb (a .minute) (b .minute)
+unfolding keyOf
+minute-decides a b year month day hour d = number-decides a b _ _ (a .minute) (b .minute) _ _ refl refl (λ i. year i ∷ pos (month i) ∷ pos (day i) ∷ pos (hour i) ∷ []) d
+
+pub second-decides : (a b : Card) → a .year ≡ b .year → a .month ≡ b .month → a .day ≡ b .day → a .hour ≡ b .hour → a .minute ≡ b .minute → a .second ≢ b .second
+    → lessCard a b ≡ ltb (a .second) (b .second)
+unfolding keyOf
+second-decides a b year month day hour minute d = number-decides a b _ _ (a .second) (b .second) _ _ refl refl (λ i. year i ∷ pos (month i) ∷ pos (day i) ∷ pos (hour i) ∷ pos (minute i) ∷ []) d
+
+same-time : (a b : Card) → SameTime a b → timeOf a ≡ timeOf b
+same-time a b t = λ i. t .year i ∷ pos (t .month i) ∷ pos (t .day i) ∷ pos (t .hour i) ∷ pos (t .minute i) ∷ pos (t .second i) ∷ []
+
+pub issue-decides : (a b : Card) → SameTime a b → a .issue ≢ b .issue → lessCard a b ≡ ltb (a .issue) (b .issue)
+unfolding keyOf
+issue-decides a b t d = number-decides a b (timeOf a) (timeOf b) (a .issue) (b .issue) _ _ refl refl (same-time a b t) d
+
+-- k octets from the left are the same, and then comes the one that decides
+pub octet-decides : (a b : Card) (k : ℕ) → SameTime a b → a .issue ≡ b .issue → k < length (a .product) → k < length (b .product) → take k (a .product) ≡ take k (b .product)
+    → getD (a .product) k 0 ≢ getD (b .product) k 0 → lessCard a b ≡ ltb (getD (a .product) k 0) (getD (b .product) k 0)
+octet-decides a b k t issue h l before d =
+    number-decides a b _ _ (getD (a .product) k 0) (getD (b .product) k 0) _ _ (key-at a k h) (key-at b k l)
+    (λ i. same-time a b t i ++ (pos (issue i) ∷ map pos (before i))) d
+
+-- a later time is greater, whatever the issues
+pub later-time : (a b : Card) → lex ltZ (timeOf a) (timeOf b) ≡ true → lessCard a b ≡ true
+unfolding lessCard keyOf
+later-time a b h = lex-front ltZ (timeOf a) (timeOf b) _ _ refl h
+
+-- the order is strict and total, so of two cards that differ one is less; "cards equal in all of it are one card"
+pub less-irreflexive : (a : Card) → lessCard a a ≡ false
+less-irreflexive = card-strict .irrefl
+
+pub less-asymmetric : (a b : Card) → lessCard a b ≡ true → lessCard b a ≡ false
+less-asymmetric = asym card-strict
+
+pub less-transitive : (a b c : Card) → lessCard a b ≡ true → lessCard b c ≡ true → lessCard a c ≡ true
+less-transitive = card-strict .trans
+
+pub less-total : (a b : Card) → a ≢ b → (lessCard a b ≡ true) ⊎ (lessCard b a ≡ true)
+less-total = either-less card-strict
+
+pub one-card : (a b : Card) → lessCard a b ≡ false → lessCard b a ≡ false → a ≡ b
+one-card = card-strict .total
+
+-- ---- "a held card beats an empty slot", whatever stands in it; and of two held slots the cards decide
+
+pub held-beats-empty : (x : Slot) (card : Card) → x .held ≡ false → lessSlot x (holding card) ≡ true
+held-beats-empty = empty-below
+
+pub held-by-cards : (a b : Card) → lessSlot (holding a) (holding b) ≡ lessCard a b
+held-by-cards a b = slot-same (holding a) (holding b) refl
+
 -- ---- "each slot holds the greatest card ever accepted for it, here or in a shelf joined in directly or through others, or is empty"
 
 pub greatest-card : (h : History) (slot : ℕ) → slot < 64 → Keeps (acceptedAt slot h) (slotAt (shelfOf h) slot)
@@ -171,19 +263,32 @@ pub queue-is-joining : (q : List ℕ) (h : History) → shelfOf (queue q h) ≡ 
 unfolding shelfOf
 queue-is-joining q h = is-joining q (shelfOf h) (tidy h)
 
+-- so the same queue again changes nothing more
+pub queue-again : (q : List ℕ) (h : History) → shelfOf (queue q (queue q h)) ≡ shelfOf (queue q h)
+unfolding shelfOf
+queue-again q h = once-more q (shelfOf h) (tidy h)
+
 -- ---- "Filing a queue reports kept (the slot changed), passed (it did not) and refused; the three sum to the records": the counts are defined by
--- the slots before and after each record. Every shelf has 64 slots
+-- the slots before and after each record, and by what its filing is. Every shelf has 64 slots
 
-said-by : (s : Shelf) (slot : ℕ) (f : Filing) (r : Filed) → length (s .slots) ≡ 64 → r ≡ filedBy s slot f → Said s slot (r .shelf) (r .answer)
-said-by s slot f r long e = subst (λ (y : Filed). Said s slot (y .shelf) (y .answer)) (sym e) (said s slot f long)
+said-by : (s : Shelf) (slot : ℕ) (f : Filing) (r : Filed) → length (s .slots) ≡ 64 → SlotThere slot f → r ≡ filedBy s slot f → Said s slot f (r .shelf) (r .answer)
+said-by s slot f r long there e = subst (λ (y : Filed). Said s slot f (y .shelf) (y .answer)) (sym e) (said s slot f long there)
 
-pub filing-says : (s : Shelf) (slot : ℕ) (x : FiledField) (r : Filed) → length (s .slots) ≡ 64 → r ≡ filedOf s slot (x .issue) (x .s1) (x .s3) (x .s4) (x .s5) (x .s7) → Said s slot (r .shelf) (r .answer)
+pub filing-says : (s : Shelf) (slot : ℕ) (x : FiledField) (r : Filed) → length (s .slots) ≡ 64 → r ≡ filedOf s slot (x .issue) (x .s1) (x .s3) (x .s4) (x .s5) (x .s7)
+    → Said s slot (filingOf slot (x .issue) (x .s1) (x .s3) (x .s4) (x .s5) (x .s7)) (r .shelf) (r .answer)
 unfolding filedOf
-filing-says s slot x = said-by s slot (filingOf slot (x .issue) (x .s1) (x .s3) (x .s4) (x .s5) (x .s7))
+filing-says s slot x r long = said-by s slot _ r long (slot-there slot (x .issue) (x .s1) (x .s3) (x .s4) (x .s5) (x .s7))
 
-pub record-says : (s : Shelf) (x : Sent) (r : Filed) → length (s .slots) ≡ 64 → r ≡ recordFiled s x → Said s (x .slot) (r .shelf) (r .answer)
+pub record-says : (s : Shelf) (x : Sent) (r : Filed) → length (s .slots) ≡ 64 → r ≡ recordFiled s x → Said s (x .slot) (recordFiling x) (r .shelf) (r .answer)
 unfolding recordFiled
-record-says s x = said-by s (x .slot) (recordFiling x)
+record-says s x r long = said-by s (x .slot) (recordFiling x) r long (record-there x)
+
+-- of a card that is put by itself: it is said to have changed its slot exactly when it did
+pub putting-says : (s : Shelf) (slot : ℕ) (card : Card) (r : PutDone) → length (s .slots) ≡ 64 → r ≡ putOf s slot card
+    → (r .changed ≡ true → slotAt (r .shelf) slot ≢ slotAt s slot) × (r .changed ≡ false → r .shelf ≡ s)
+putting-says s slot card r long e =
+    subst⁻¹ (λ (y : PutDone). (y .changed ≡ true → slotAt (y .shelf) slot ≢ slotAt s slot) × (y .changed ≡ false → y .shelf ≡ s)) e
+    (changed-differs s slot card long, unchanged-same s slot card long)
 
 pub queue-reports : (s : Shelf) (q : List ℕ) (r : QueueFiled) (n : Counts) → r ≡ queueFiled s q → r .answer ≡ filedAll n → Reports s (cutOf recordStep q .items) n
 queue-reports s q r n e f =

@@ -1,33 +1,32 @@
 -- Shelves as octets: each shelf that the entries make of octets is read back from its own octets, so that demand 3 holds of octets that are
--- stored or sent between two calls. Joining octets commutes, associates and is idempotent.
+-- stored or sent between two calls. Whatever octets there are say the shelf of a history; zeroed ones the empty shelf. Joining octets
+-- commutes, associates and is idempotent.
 -- Assumes nothing.
-use Prim.Native.Nat.{ℕ, _-_, _^_, _<_, _≤_}
+use Prim.Native.Nat.{ℕ, zero, suc, _+_, _-_, _*_, _^_, _<_, _≤_}
 use native.Mathlib.Omega.{arith}
-use mathlib.Core.Path.{_≡_, refl, subst⁻¹}
+use mathlib.Core.Path.{_≡_, refl, sym, ap, subst⁻¹, _∙_}
 use mathlib.Core.Bool.{Bool, true, false, cond}
 use mathlib.Core.List.{List, [], _∷_}
-use lib.Dec.{eqb, ltb}
+use mathlib.Core.Logic.{_≢_}
+use lib.Dec.{eqb}
 use lib.IntN.{ℤ, pos, negsuc, natAbs, _*ℤ_}
-use lib.ListN.{drop}
+use lib.ListN.{drop, replicate}
 use lib.Signed.{mag}
-use Rattle.octets.specs.Octets.{beAt, signOf, realYear, AllOctets}
+use Rattle.octets.specs.Octets.{octet, beAt, signOf, realYear, AllOctets}
 use Rattle.octets.proofs.Laws.{beAt-below, part-length, take-octets, drop-octets}
 use Rattle.octets.proofs.Signs.{abs-add, abs-mul, sign-abs}
-use Rattle.layout.specs.Fields.{Value}
-use Rattle.layout.specs.Outcomes.{Outcome, refused, read}
-use Rattle.identification.specs.Section1.{outcome₁, realYearAt}
+use Rattle.identification.specs.Section1.{realYearAt}
 use Rattle.identification.specs.declared.Template.{Template}
 use Rattle.identification.specs.declared.Template.the-variants.{None as noTemplate, Calendar, Offset, CalendarAndOffset}
-use Rattle.field.specs.Field.{FieldOutcome, refusedField, readField, onward, packedOutcome, fieldOutcome}
 use Rattle.shelf.specs.declared.Shelf.{Shelf}
-use Rattle.shelf.specs.Shelves.{slotAt, joinShelf}
+use Rattle.shelf.specs.Shelves.{slotAt, emptyShelf, joinShelf}
 use Rattle.shelf.specs.History.{Keeps}
 use Rattle.shelf_octets.specs.ShelfOctets.{shelfIn, asOctets, joinOctets, Held, Stored}
 use Rattle.shelf_octets.proofs.Laws as laws
 use Rattle.filing.specs.declared.Issue.{Issue}
 use Rattle.filing.specs.declared.Issue.the-variants.{NotNamed, Named}
-use Rattle.filing.specs.Filing.{Filing, refusedFiling, accepted, issueOf, cardOf, foreignCalendar, ofField, filingOf, filedBy, filedOf, issueFrom}
-use Rattle.filing.proofs.CardOctets.{card-octets}
+use Rattle.filing.specs.Filing.{Filing, refusedFiling, accepted, issueOf, filingOf, filedBy, filedOf, issueFrom}
+use Rattle.filing.proofs.FiledExactlyWhen.{filed-exactly-when, filed-card}
 use Rattle.cutting.specs.Cuts.{cutOf}
 use Rattle.cutting.specs.Sections.{stretch}
 use Rattle.cutting.proofs.Taken.{taken}
@@ -39,10 +38,12 @@ use Rattle.queue.specs.declared.Record.the-variants.{Whole}
 use Rattle.queue.specs.Records.{recordOf}
 use Rattle.queue.specs.Bodies.{bodyOf}
 use Rattle.queue.specs.Queues.{Sent, recordIn, bodyFiling, recordFiling, recordFiled, recordStep, oneMore, recordsFiled, fromStart, queueRefusal, refusedQueue, acceptedQueue, queueFiled}
-use Rattle.queue.specs.History.{History, start, file, queue, join, shelfOf, acceptedAt}
+use Rattle.queue.specs.History.{History, start, put, file, queue, join, shelfOf, acceptedAt}
 use Rattle.queue.proofs.Histories.{greatest-card}
+use Rattle.queue.proofs.HeldCards.{putIf, cardsPut, tidy-is-history}
+use Rattle.queue.proofs.QueueIsJoining.{queue-is-joining, queue-again}
 use Rattle.queue.proofs.Cuts.{stands, by-records}
-use Rattle.demands.specs.Histories.{Given}
+use Rattle.demands.specs.Histories.{Given, Leaves, Writes}
 
 -- ---- the card of a field that is accepted
 
@@ -63,47 +64,19 @@ year-small Calendar s a = omega (arith, beAt-below s 13 2 a)
 year-small Offset s a = real-year-small (beAt s 13 2) (beAt s 24 2) (beAt-below s 13 2 a) (beAt-below s 24 2 a)
 year-small CalendarAndOffset s a = real-year-small (beAt s 13 2) (beAt s 25 2) (beAt-below s 13 2 a) (beAt-below s 25 2 a)
 
-card-held : (s1 : List ℕ) (one : List Value) (issue : ℕ) (s4 : List ℕ) → AllOctets s1 → issue < 2 ^ 32 → outcome₁ s1 ≡ read one → Held (cardOf one issue s4)
-card-held s1 one issue s4 a h e =
-    let c = card-octets s1 one issue s4 e in
-    subst⁻¹ Held (c .2) (record { year = year-small (c .0) s1 a; issue = h; product = part-length s4 8 27 })
-
--- the first values of a field that is read are section 1's
-abbrev FirstIs : List ℕ → FieldOutcome → Type 0
-FirstIs s1 (refusedField number section place) = Unit {0}
-FirstIs s1 (readField one three four five) = outcome₁ s1 ≡ read one
-
-onward-first : (s1 : List ℕ) (o : Outcome) (next : List Value → FieldOutcome) → ((vs : List Value) → o ≡ read vs → FirstIs s1 (next vs)) → FirstIs s1 (onward o next)
-unfolding onward
-onward-first s1 (refused number section place) next f = tt
-onward-first s1 (read vs) next f = f vs refl
-
-field-first : (s1 s3 s4 s5 s7 : List ℕ) → FirstIs s1 (fieldOutcome s1 s3 s4 s5 s7)
-unfolding fieldOutcome packedOutcome
-field-first s1 s3 s4 s5 s7 =
-    onward-first s1 _ _ (λ one e. onward-first s1 _ _ (λ three _. onward-first s1 _ _ (λ four _. onward-first s1 _ _ (λ five _. onward-first s1 _ _ (λ seven _. e)))))
-
 -- a card that is accepted is one that a machine has
 abbrev HeldIf : Filing → Type 0
 HeldIf (refusedFiling number section place) = Unit {0}
 HeldIf (accepted card) = Held card
 
-field-held : (o : FieldOutcome) (s1 : List ℕ) (issue : ℕ) (s4 : List ℕ) → AllOctets s1 → issue < 2 ^ 32 → FirstIs s1 o → HeldIf (ofField o issue s4)
-unfolding ofField
-field-held (refusedField number section place) s1 issue s4 a h f = tt
-field-held (readField one three four five) s1 issue s4 a h f = by-calendar (foreignCalendar one)
-  where
-    by-calendar : (t : Bool) → HeldIf (cond t (refusedFiling 17 1 0) (accepted (cardOf one issue s4)))
-    by-calendar true = tt
-    by-calendar false = card-held s1 one issue s4 a h f
-
 filing-held : (slot : ℕ) (issue : Issue) (s1 s3 s4 s5 s7 : List ℕ) → AllOctets s1 → issueOf issue < 2 ^ 32 → HeldIf (filingOf slot issue s1 s3 s4 s5 s7)
-unfolding filingOf
-filing-held slot issue s1 s3 s4 s5 s7 a h = by-slot (ltb 63 slot)
+filing-held slot issue s1 s3 s4 s5 s7 a h = by-filing (filingOf slot issue s1 s3 s4 s5 s7) refl
   where
-    by-slot : (t : Bool) → HeldIf (cond t (refusedFiling 16 0 0) (ofField (fieldOutcome s1 s3 s4 s5 s7) (issueOf issue) s4))
-    by-slot true = tt
-    by-slot false = field-held (fieldOutcome s1 s3 s4 s5 s7) s1 (issueOf issue) s4 a h (field-first s1 s3 s4 s5 s7)
+    by-filing : (f : Filing) → filingOf slot issue s1 s3 s4 s5 s7 ≡ f → HeldIf f
+    by-filing (refusedFiling number section place) e = tt
+    by-filing (accepted card) e =
+        let g = filed-exactly-when slot issue s1 s3 s4 s5 s7 .0 (card, e) .gregorian in
+        subst⁻¹ Held (filed-card slot issue s1 s3 s4 s5 s7 card e (g .0) (g .1)) (record { year = year-small (g .0) s1 a; issue = h; product = part-length s4 8 27 })
 
 filed-stored : (s : Shelf) (slot : ℕ) (f : Filing) → Stored s → HeldIf f → Stored (filedBy s slot f .shelf)
 unfolding filedBy
@@ -185,6 +158,7 @@ read-after-joining = laws.join-read
 stored-history : (h : History) → Given h → Stored (shelfOf h)
 unfolding shelfOf Given
 stored-history start g = laws.stored-empty
+stored-history (put slot card h) g = laws.stored-put (shelfOf h) slot card (stored-history h (g .1)) (g .0)
 stored-history (file slot x h) g = stored-filed (shelfOf h) slot (x .issue) (x .s1) (x .s3) (x .s4) (x .s5) (x .s7) (stored-history h (g .2)) (g .0) (g .1)
 stored-history (queue q h) g = stored-queue (shelfOf h) q (stored-history h (g .1)) (g .0)
 stored-history (join h k) g = laws.stored-join (shelfOf h) (shelfOf k) (stored-history h (g .0)) (stored-history k (g .1))
@@ -192,8 +166,49 @@ stored-history (join h k) g = laws.stored-join (shelfOf h) (shelfOf k) (stored-h
 pub history-read-back : (h : History) → Given h → shelfIn (asOctets (shelfOf h)) ≡ shelfOf h
 history-read-back h g = laws.read-back (shelfOf h) (stored-history h g)
 
-pub octets-greatest-card : (h : History) → Given h → (slot : ℕ) → slot < 64 → Keeps (acceptedAt slot h) (slotAt (shelfIn (asOctets (shelfOf h))) slot)
-octets-greatest-card h g slot l = subst⁻¹ (λ (s : Shelf). Keeps (acceptedAt slot h) (slotAt s slot)) (history-read-back h g) (greatest-card h slot l)
+-- ---- which octets a history leaves
+
+-- those in which its shelf is written
+pub writes : (h : History) (o : List ℕ) → Given h → o ≡ asOctets (shelfOf h) → Writes h o
+writes h o g e = record { leaves = record { given = g; says = ap shelfIn e ∙ history-read-back h g }; written = e }
+
+-- what such octets say of a slot
+pub octets-greatest-card : (h : History) (o : List ℕ) → Leaves h o → (slot : ℕ) → slot < 64 → Keeps (acceptedAt slot h) (slotAt (shelfIn o) slot)
+octets-greatest-card h o l slot below = subst⁻¹ (λ (s : Shelf). Keeps (acceptedAt slot h) (slotAt s slot)) (l .says) (greatest-card h slot below)
+
+-- zeroed memory is the empty shelf
+pub zeroed-writes : Writes start (replicate 2624 0)
+unfolding shelfOf Given
+zeroed-writes = writes start (replicate 2624 0) tt (sym laws.empty-zeros)
+
+-- and so are octets of which none is 1 where a slot starts, whatever the others are
+pub none-held-leaves : (o : List ℕ) → ((slot : ℕ) → slot < 64 → octet o (41 * slot + 1) ≢ 1) → Leaves start o
+unfolding shelfOf Given
+none-held-leaves o d = record { given = tt; says = laws.none-held o d }
+
+-- whatever octets there are say the shelf of a history, in which each held card was put
+given-cards : (s : Shelf) → Stored s → (n : ℕ) → n ≤ 64 → Given (cardsPut n s)
+unfolding Given cardsPut
+given-cards s t zero h = tt
+given-cards s t (suc n) h = by-held (slotAt s n .held) (given-cards s t n (omega arith))
+  where
+    by-held : (b : Bool) → Given (cardsPut n s) → Given (putIf b n (slotAt s n) (cardsPut n s))
+    by-held true g = (t .cards n (omega arith), g)
+    by-held false g = g
+
+pub any-octets-leave : (o : List ℕ) → AllOctets o → (h : History) × Leaves h o
+any-octets-leave o a = (
+  cardsPut 64 (shelfIn o),
+  record { given = given-cards (shelfIn o) (laws.stored-in o a) 64 (omega arith); says = sym (tidy-is-history (shelfIn o) (laws.tidy-in o)) },
+)
+
+-- ---- filing a queue to a shelf that is read from octets, whatever they are
+
+pub octets-queue-is-joining : (o q : List ℕ) → queueFiled (shelfIn o) q .shelf ≡ joinShelf (shelfIn o) (queueFiled emptyShelf q .shelf)
+octets-queue-is-joining o q = queue-is-joining q (shelfIn o) (laws.tidy-in o)
+
+pub octets-queue-again : (o q : List ℕ) → queueFiled (queueFiled (shelfIn o) q .shelf) q .shelf ≡ queueFiled (shelfIn o) q .shelf
+octets-queue-again o q = queue-again q (shelfIn o) (laws.tidy-in o)
 
 -- ---- joining octets
 

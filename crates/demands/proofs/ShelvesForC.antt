@@ -1,5 +1,5 @@
--- Demand 3 of the entries for C: where one answers 0, the octets of a history's shelf become those of the history that goes on with it.
--- Where it refuses, they stay (`RefusalsLeaveAll`).
+-- Demand 3 of the entries for C: where one answers 0, octets that say a history's shelf become those in which the shelf of the history
+-- that goes on with it is written. Where it refuses, they stay (`RefusalsLeaveAll`).
 -- Assumes nothing.
 use Prim.Native.Nat.{ℕ, _<_}
 use native.Mathlib.Omega.{arith}
@@ -23,47 +23,37 @@ use Rattle.lent.proofs.Answers.{room-lent}
 use Rattle.skogmund.specs.Entries.{code, noRoom}
 use Rattle.skogmund.specs.Shelves.{isShelf, emptied, joined, filedField, filedQueue, slotNumbers, slotShown}
 use Rattle.skogmund.proofs.Answered.{no-room-refuses, field-left, queue-left}
-use Rattle.demands.specs.Histories.{Given, Leaves, fieldOf}
-use Rattle.demands.proofs.ShelvesAsOctets.{issue-small, history-read-back}
-
--- the shelf that such octets say
-says : (h : History) (s : List ℕ) → Leaves h s → shelfIn s ≡ shelfOf h
-says h s l = ap shelfIn (l .left) ∙ history-read-back h (l .given)
+use Rattle.demands.specs.Histories.{Given, Leaves, Writes, fieldOf}
+use Rattle.demands.proofs.ShelvesAsOctets.{issue-small, writes}
 
 -- 0 says that there was room
 left-by : {B : Type 0} (t : Bool) (after before later : B) → done 0 later ≡ ifRoom 0 noRoom t after before → later ≡ after
 left-by = room-lent 0 noRoom no-room-refuses
 
-pub c-empties : (s s′ : List ℕ) → done 0 s′ ≡ emptied s → Leaves start s′
+pub c-empties : (s s′ : List ℕ) → done 0 s′ ≡ emptied s → Writes start s′
 unfolding emptied Given shelfOf
-c-empties s s′ e = record { given = tt; left = left-by (isShelf s) _ s s′ e ∙ sym empty-zeros }
+c-empties s s′ e = writes start s′ tt (left-by (isShelf s) _ s s′ e ∙ sym empty-zeros)
 
-pub c-joins : (g h : History) (s other s′ : List ℕ) → Leaves g s → Leaves h other → done 0 s′ ≡ joined s other → Leaves (join g h) s′
+pub c-joins : (g h : History) (s other s′ : List ℕ) → Leaves g s → Leaves h other → done 0 s′ ≡ joined s other → Writes (join g h) s′
 unfolding joined Given shelfOf
 c-joins g h s other s′ l m e =
-    record {
-      given = (l .given, m .given);
-      left = left-by (isShelf s && isShelf other) (joinOctets s other) s s′ e ∙ ap₂ (λ (a b : Shelf). asOctets (joinShelf a b)) (says g s l) (says h other m);
-    }
+    writes (join g h) s′ (l .given, m .given)
+    (left-by (isShelf s && isShelf other) (joinOctets s other) s s′ e ∙ ap₂ (λ (a b : Shelf). asOctets (joinShelf a b)) (l .says) (m .says))
 
 pub c-files : (h : History) (s : List ℕ) (slot stored : ℕ) (s1 s3 s4 s5 s7 places s′ places′ : List ℕ) → Leaves h s → AllOctets s1 → doneBoth 0 s′ places′ ≡ filedField s slot stored s1 s3 s4 s5 s7 places
-    → Leaves (file slot (fieldOf stored s1 s3 s4 s5 s7) h) s′
+    → Writes (file slot (fieldOf stored s1 s3 s4 s5 s7) h) s′
 unfolding Given shelfOf
 c-files h s slot stored s1 s3 s4 s5 s7 places s′ places′ l a e =
     let x = field-left s slot stored s1 s3 s4 s5 s7 places (sym (ap (λ (x : Done ℕ (List ℕ × List ℕ)). x .answer) e)) in
-    record {
-      given = (a, issue-small stored (x .0 .0), l .given);
-      left = ap (λ (x : Done ℕ (List ℕ × List ℕ)). x .lent .0) e ∙ x .1 ∙ ap (λ (y : Shelf). asOctets (filedOf y slot (issueFrom stored) s1 s3 s4 s5 s7 .shelf)) (says h s l);
-    }
+    writes (file slot (fieldOf stored s1 s3 s4 s5 s7) h) s′ (a, issue-small stored (x .0 .0), l .given)
+    (ap (λ (x : Done ℕ (List ℕ × List ℕ)). x .lent .0) e ∙ x .1 ∙ ap (λ (y : Shelf). asOctets (filedOf y slot (issueFrom stored) s1 s3 s4 s5 s7 .shelf)) (l .says))
 
-pub c-files-queue : (h : History) (s q places s′ places′ : List ℕ) → Leaves h s → AllOctets q → doneBoth 0 s′ places′ ≡ filedQueue s q places → Leaves (queue q h) s′
+pub c-files-queue : (h : History) (s q places s′ places′ : List ℕ) → Leaves h s → AllOctets q → doneBoth 0 s′ places′ ≡ filedQueue s q places → Writes (queue q h) s′
 unfolding Given shelfOf
 c-files-queue h s q places s′ places′ l a e =
     let x = queue-left s q places (sym (ap (λ (x : Done ℕ (List ℕ × List ℕ)). x .answer) e)) in
-    record {
-      given = (a, l .given);
-      left = ap (λ (x : Done ℕ (List ℕ × List ℕ)). x .lent .0) e ∙ x .2 ∙ ap (λ (y : Shelf). asOctets (queueFiled y q .shelf)) (says h s l);
-    }
+    writes (queue q h) s′ (a, l .given)
+    (ap (λ (x : Done ℕ (List ℕ × List ℕ)). x .lent .0) e ∙ x .2 ∙ ap (λ (y : Shelf). asOctets (queueFiled y q .shelf)) (l .says))
 
 -- what the history's slot holds; `greatest-card` says which card that is
 pub c-shows : (h : History) (s : List ℕ) (slot : ℕ) (values values′ : List ℤ) → Leaves h s → done 0 values′ ≡ slotShown s slot values
@@ -76,4 +66,4 @@ c-shows h s slot values values′ l e = by (ltb 63 slot) refl e
     by true f e = absurd (omega (arith, ap (λ (x : Done ℕ (List ℤ)). x .answer) e))
     by false f e =
         let small = ltb-false 63 slot f in
-        (omega (arith, small), left-by (isShelf s && leb 64 (length values)) _ values values′ e ∙ ap (λ (y : Shelf). withCount (slotNumbers (slotAt y slot)) values) (says h s l))
+        (omega (arith, small), left-by (isShelf s && leb 64 (length values)) _ values values′ e ∙ ap (λ (y : Shelf). withCount (slotNumbers (slotAt y slot)) values) (l .says))

@@ -3,14 +3,13 @@
 -- Assumes nothing.
 use Prim.Native.Nat.{ℕ}
 use mathlib.Core.Path.{_≡_}
-use mathlib.Core.Bool.{Bool}
 use mathlib.Core.List.{List}
 use Rattle.identification.specs.Accepted.{Follows₁}
 use Rattle.identification.specs.declared.Template.{Template as Template₁}
 use Rattle.grid.specs.Accepted.{Follows₃}
 use Rattle.grid.specs.declared.templates.Template.{Template as Template₃}
+use Rattle.product.specs.Table.{TemplateRow}
 use Rattle.product.specs.Accepted.{Follows₄}
-use Rattle.product.specs.declared.templates.PartKind.{PartKind}
 use Rattle.packing.specs.Accepted.{Follows₅, Follows₇}
 use Rattle.packing.specs.Section5.{valuesAt, bitsAt}
 use Rattle.field.specs.Field.{FieldOutcome, refusedField, readField, pointsAt}
@@ -18,7 +17,7 @@ use Rattle.field.specs.Field.{FieldOutcome, refusedField, readField, poi
 pub record FollowsField (s1 s3 s4 s5 s7 : List ℕ) : Type 0 where
   pub identified : (template : Template₁) × Follows₁ template s1
   pub gridded : (template : Template₃) × Follows₃ template s3
-  pub described : (kind : PartKind) × (timed : Bool) × Follows₄ kind timed s4
+  pub described : (row : TemplateRow) × Follows₄ row s4
   pub packed : Follows₅ s5
   pub points : valuesAt s5 ≡ pointsAt s3
   pub filled : Follows₇ (valuesAt s5) (bitsAt s5) s7

@@ -1,21 +1,44 @@
--- What is answered is said of the slots before and after, whatever shelf of 64 slots is lent.
+-- What is answered is said of the filing and of the slots before and after, whatever shelf of 64 slots is lent.
 -- Assumes nothing.
-use Prim.Native.Nat.{ℕ}
-use mathlib.Core.Path.{_≡_, refl}
+use Prim.Native.Nat.{ℕ, _<_}
+use mathlib.Core.Path.{_≡_, refl, sym, _∙_}
 use mathlib.Core.Bool.{Bool, true, false}
+use mathlib.Core.List.{List}
 use lib.ListN.{length}
+use borrow.Author.Tests.{lt-ltb}
 use Rattle.card.specs.declared.Card.{Card}
+use Rattle.card.proofs.Strict.{less-apart}
 use Rattle.shelf.specs.declared.Shelf.{Shelf}
-use Rattle.shelf.specs.Shelves.{putShelf, putOf}
-use Rattle.shelf.proofs.Laws.{put-other, unchanged-same, changed-differs}
-use Rattle.filing.specs.Filing.{Filing, refusedFiling, accepted, filedBy, keptIf, Said}
+use Rattle.shelf.specs.Shelves.{lessSlot, holding, slotAt, putShelf}
+use Rattle.shelf.proofs.Slots.{slot-strict}
+use Rattle.shelf.proofs.Laws.{put-other, put-raises, put-stays}
+use Rattle.filing.specs.Filing.{Filing, refusedFiling, accepted, filingOf, filedBy, keptIf, Said}
+use Rattle.filing.specs.declared.Issue.{Issue}
+use Rattle.filing.proofs.FiledExactlyWhen.{filed-exactly-when}
 
-put-said : (s : Shelf) (slot : ℕ) (c : Card) → length (s .slots) ≡ 64 → (changed : Bool) → putOf s slot c .changed ≡ changed →
-    Said s slot (putShelf s slot c) (keptIf changed)
-put-said s slot c long true e = (changed-differs s slot c long e, λ k d. put-other s slot k c d)
-put-said s slot c long false e = unchanged-same s slot c long e
+-- ---- a card is accepted only for a slot that is there: 16
 
-pub said : (s : Shelf) (slot : ℕ) (f : Filing) → length (s .slots) ≡ 64 → Said s slot (filedBy s slot f .shelf) (filedBy s slot f .answer)
+abbrev pub SlotThere : ℕ → Filing → Type 0
+SlotThere slot (refusedFiling number section place) = Unit {0}
+SlotThere slot (accepted card) = slot < 64
+
+pub slot-there : (slot : ℕ) (issue : Issue) (s1 s3 s4 s5 s7 : List ℕ) → SlotThere slot (filingOf slot issue s1 s3 s4 s5 s7)
+slot-there slot issue s1 s3 s4 s5 s7 = by-filing (filingOf slot issue s1 s3 s4 s5 s7) refl
+  where
+    by-filing : (f : Filing) → filingOf slot issue s1 s3 s4 s5 s7 ≡ f → SlotThere slot f
+    by-filing (refusedFiling number section place) e = tt
+    by-filing (accepted card) e = filed-exactly-when slot issue s1 s3 s4 s5 s7 .0 (card, e) .there
+
+-- ---- what is answered
+
+put-said : (s : Shelf) (slot : ℕ) (c : Card) → length (s .slots) ≡ 64 → slot < 64 → (less : Bool) → lessSlot (slotAt s slot) (holding c) ≡ less →
+    Said s slot (accepted c) (putShelf s slot c) (keptIf less)
+put-said s slot c long h true e =
+    let holds = put-raises s slot c long h e in
+    record { card = c; accepts = refl; heldLess = e; holds = holds; changed = λ same. less-apart slot-strict e (sym same ∙ holds); others = λ k d. put-other s slot k c d }
+put-said s slot c long h false e = record { card = c; accepts = refl; holdsNoLess = e; same = put-stays s slot c e }
+
+pub said : (s : Shelf) (slot : ℕ) (f : Filing) → length (s .slots) ≡ 64 → SlotThere slot f → Said s slot f (filedBy s slot f .shelf) (filedBy s slot f .answer)
 unfolding filedBy
-said s slot (refusedFiling number section place) long = refl
-said s slot (accepted card) long = put-said s slot card long (putOf s slot card .changed) refl
+said s slot (refusedFiling number section place) long h = record { refuses = refl; same = refl }
+said s slot (accepted card) long h = rw (lt-ltb slot 64 h) (put-said s slot card long h (lessSlot (slotAt s slot) (holding card)) refl)

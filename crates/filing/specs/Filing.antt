@@ -9,11 +9,12 @@ use lib.Dec.{ltb, eqb}
 use Rattle.octets.specs.Octets.{beAt, part}
 use Rattle.layout.specs.Fields.{Value, naturalIn}
 use Rattle.layout.specs.Outcomes.{refusal}
+use Rattle.layout.specs.declared.Refusal.{Refusal}
 use Rattle.identification.specs.Section1.{realYearAt, realYearOf, monthOf, dayOf, hourOf, minuteOf, secondOf, calendarOf}
 use Rattle.identification.specs.declared.Template.{Template}
 use Rattle.field.specs.Field.{FieldOutcome, refusedField, readField, fieldOutcome}
 use Rattle.card.specs.declared.Card.{Card}
-use Rattle.shelf.specs.Shelves.{slotAt, putOf}
+use Rattle.shelf.specs.Shelves.{lessSlot, holding, slotAt, putOf}
 use Rattle.shelf.specs.declared.Shelf.{Shelf}
 use Rattle.shelf.specs.declared.PutDone.{PutDone}
 use Rattle.filing.specs.declared.Issue.{Issue}
@@ -108,10 +109,30 @@ filedBy shelf slot (accepted card) = afterPut (putOf shelf slot card)
 unfoldable pub filedOf : Shelf → ℕ → Issue → List ℕ → List ℕ → List ℕ → List ℕ → List ℕ → Filed
 filedOf shelf slot issue s1 s3 s4 s5 s7 = filedBy shelf slot (filingOf slot issue s1 s3 s4 s5 s7)
 
--- ---- what an answer says of the shelf before and after: kept, that the slot changed, and no other; passed, that it did not, nor another; and a
--- refusal changes none
+-- ---- what an answer says of a filing, and of the shelf before and after it
 
-abbrev pub Said : Shelf → ℕ → Shelf → Answer → Type 0
-Said before slot after Kept = (slotAt after slot ≢ slotAt before slot) × ((k : ℕ) → k ≢ slot → slotAt after k ≡ slotAt before k)
-Said before slot after Passed = after ≡ before
-Said before slot after (Refused x) = after ≡ before
+-- kept: a card is accepted, the slot held less and now holds that card; so it changed, and no other did
+pub record SaysKept (before : Shelf) (slot : ℕ) (filing : Filing) (after : Shelf) : Type 0 where
+  pub card : Card
+  pub accepts : filing ≡ accepted card
+  pub heldLess : lessSlot (slotAt before slot) (holding card) ≡ true
+  pub holds : slotAt after slot ≡ holding card
+  pub changed : slotAt after slot ≢ slotAt before slot
+  pub others : (k : ℕ) → k ≢ slot → slotAt after k ≡ slotAt before k
+
+-- passed: a card is accepted, and the slot holds no less; no slot changed
+pub record SaysPassed (before : Shelf) (slot : ℕ) (filing : Filing) (after : Shelf) : Type 0 where
+  pub card : Card
+  pub accepts : filing ≡ accepted card
+  pub holdsNoLess : lessSlot (slotAt before slot) (holding card) ≡ false
+  pub same : after ≡ before
+
+-- refused: the filing is, with this number, section and place; no slot changed
+pub record SaysRefused (before : Shelf) (filing : Filing) (after : Shelf) (x : Refusal) : Type 0 where
+  pub refuses : filing ≡ refusedFiling (x .number) (x .section) (x .place)
+  pub same : after ≡ before
+
+abbrev pub Said : Shelf → ℕ → Filing → Shelf → Answer → Type 0
+Said before slot filing after Kept = SaysKept before slot filing after
+Said before slot filing after Passed = SaysPassed before slot filing after
+Said before slot filing after (Refused x) = SaysRefused before filing after x

@@ -1,11 +1,11 @@
 -- A section 4 is accepted exactly when it follows a listed template and keeps the value rules; what is read out are then the
 -- values of that template's fields.
 -- Assumes nothing.
-use Prim.Native.Nat.{ℕ, zero, suc, _+_, _-_, _*_, _≤_}
+use Prim.Native.Nat.{ℕ, zero, suc, _+_, _-_, _≤_}
 use native.Mathlib.Omega.{arith}
-use mathlib.Core.Path.{_≡_, refl, ap, sym, _∙_}
-use mathlib.Core.Logic.{_↔_}
-use mathlib.Core.List.{List}
+use mathlib.Core.Path.{_≡_, refl, ap, sym, subst, _∙_}
+use mathlib.Core.Logic.{_↔_, ⊎-elim}
+use mathlib.Core.List.{List, List·Memᴰ}
 use mathlib.Core.Bool.{Bool, true, false, cond, _&&_}
 use lib.ListN.{length}
 use lib.Dec.{eqb}
@@ -20,34 +20,13 @@ use Rattle.layout.proofs.Ranges.{between-in, in-between, test-differs, differs-
 use Rattle.product.specs.Blocks.{process, forecast, scaled, surface, common, interval}
 use Rattle.product.specs.Templates.{templateOf, frontEnd, partEnd, rangesEnd, total, rangesAt, membersAt, coordinatesAt, lackOfRanges, fieldsIn, totalIn, values₄}
 use Rattle.product.specs.Section4.{asTemplate, byTemplate, outcome₄}
-use Rattle.product.specs.Accepted.{octetsBefore, countAt, forecastAt, EndKept, IntervalKept, Follows₄}
+use Rattle.product.specs.Table.{CountAt, blank, octet, TemplateRow, templates₄, isTimed}
+use Rattle.product.specs.Accepted.{EndKept, IntervalKept, Follows₄}
 use Rattle.product.specs.declared.templates.PartKind.{PartKind}
-use Rattle.product.specs.declared.templates.PartKind.the-variants.{None as noPart, Ensemble, Cluster, Probability, Aerosol}
 use Rattle.product.specs.declared.templates.Template.{Template}
 use Rattle.product.specs.declared.templates.Template.the-variants.{NotListed, Listed}
 use Rattle.product.proofs.FieldsByBlock.{bad-is, part-enough}
-
--- ---- document 01's table and the blocks
-
-pub table-places : (kind : PartKind) → (forecastAt kind ≡ frontEnd kind + 8) × (countAt kind ≡ partEnd kind + 8)
-table-places noPart = (refl, refl)
-table-places Ensemble = (refl, refl)
-table-places Cluster = (refl, refl)
-table-places Probability = (refl, refl)
-table-places Aerosol = (refl, refl)
-
-pub table-total : (kind : PartKind) (timed : Bool) (s : List ℕ) → octetsBefore kind timed s + 4 * beAt s 6 2 ≡ totalIn kind timed s
-unfolding total rangesEnd rangesAt
-table-total noPart false s = omega arith
-table-total Ensemble false s = omega arith
-table-total Cluster false s = omega arith
-table-total Probability false s = omega arith
-table-total Aerosol false s = omega arith
-table-total noPart true s = omega arith
-table-total Ensemble true s = omega arith
-table-total Cluster true s = omega arith
-table-total Probability true s = omega arith
-table-total Aerosol true s = omega arith
+use Rattle.product.proofs.TableAgrees.{table-listed, table-process, table-count, table-total, listed-or-not}
 
 -- ---- the value rules, of the end of an interval after octet `end`
 
@@ -88,18 +67,18 @@ module _ (end : ℕ) (s : List ℕ) where
   )
 
 module _ (kind : PartKind) (s : List ℕ) where
-  -- whether there is an interval or not
-  interval-in : (timed : Bool) → cond timed (badPlace (after (partEnd kind) interval) s) 0 ≡ 0 → timed && eqb (rangesAt kind timed s) 0 ≡ false → IntervalKept timed (countAt kind) s
+  -- whether there is an interval or not, with n at its octet
+  abbrev countAt : Bool → CountAt
+  countAt timed = cond timed (octet (partEnd kind + 8)) blank
+
+  interval-in : (timed : Bool) → cond timed (badPlace (after (partEnd kind) interval) s) 0 ≡ 0 → timed && eqb (rangesAt kind timed s) 0 ≡ false → IntervalKept (countAt timed) s
   unfolding rangesAt
-  interval-in true bad n =
-      rw (table-places kind .1) (end-in (partEnd kind) s (bad-none _ _ interval s (omega arith) bad) (eqb-false _ _ n))
+  interval-in true bad n = end-in (partEnd kind) s (bad-none _ _ interval s (omega arith) bad) (eqb-false _ _ n)
   interval-in false bad n = tt
 
-  in-interval : (timed : Bool) → IntervalKept timed (countAt kind) s → (cond timed (badPlace (after (partEnd kind) interval) s) 0 ≡ 0) × (timed && eqb (rangesAt kind timed s) 0 ≡ false)
+  in-interval : (timed : Bool) → IntervalKept (countAt timed) s → (cond timed (badPlace (after (partEnd kind) interval) s) 0 ≡ 0) × (timed && eqb (rangesAt kind timed s) 0 ≡ false)
   unfolding rangesAt
-  in-interval true k =
-      let e = rw (table-places kind .1) at k in
-      (none-bad _ s (in-end (partEnd kind) s e), ne-eqb _ _ (e .ranges))
+  in-interval true k = (none-bad _ s (in-end (partEnd kind) s k), ne-eqb _ _ (k .ranges))
   in-interval false k = (refl, refl)
 
 -- the forecast time is all that can be out of range in the fields that every template has
@@ -114,37 +93,49 @@ in-time end s h = (
   (refl, (refl, (refl, (refl, (refl, (differs-test _ _ h, (refl, (refl, (refl, (refl, (refl, (refl, tt)))))))))))),
 )
 
+-- the forecast time stands 8 octets after where the generating process follows
+forecast-place : (row : TemplateRow) → List·Memᴰ row templates₄ → 19 + row .moved ≡ frontEnd (row .part) + 8
+forecast-place row m = omega (arith, table-process row m)
+
 -- ---- accepted, so it follows
 
--- the template by which a section is read
-template-of : (template : Template) (s : List ℕ) (vs : List Value) → byTemplate template s ≡ read vs → (kind : PartKind) × (timed : Bool) × (template ≡ Listed kind timed) × (asTemplate kind timed s ≡ read vs)
-unfolding byTemplate
-template-of NotListed s vs e = let z : _≡_ {A = ℕ} 0 1 = cc in absurd (omega arith)
-template-of (Listed kind timed) s vs e = (kind, timed, refl, e)
+module _ (s : List ℕ) (vs : List Value) where
+  -- by a row of the table
+  by-row : (row : TemplateRow) → List·Memᴰ row templates₄ → beAt s 8 2 ≡ row .number → Headed 4 s → byTemplate (templateOf (beAt s 8 2)) s ≡ read vs → (row : TemplateRow) × Follows₄ row s × (vs ≡ values₄ (row .part) (isTimed row) s)
+  unfolding asTemplate byTemplate
+  by-row row m names head e =
+      let kind = row .part in
+      let timed = isTimed row in
+      let by = ap (λ (t : Template). byTemplate t s) (sym (ap templateOf names ∙ table-listed row m)) ∙ e in
+      let fits = template-read 4 s (read (values₄ kind timed s)) _ _ _ _ vs by in
+      let bad = sym (bad-is kind timed (rangesAt kind timed s) (membersAt kind s) (coordinatesAt s) s) ∙ fits .0 .in-range in
+      let fine = bad-clear (frontEnd kind) 1 common s _ (omega arith) bad in (
+        row,
+        record {
+          listed = m;
+          small = head .small;
+          whole = fits .0 .whole ∙ table-total row m s;
+          says-length = head .says-length;
+          says-number = head .says-number;
+          names = names;
+          forecast-time = rw (forecast-place row m) (time-in (frontEnd kind) s (fine .0));
+          interval = subst (λ (c : CountAt). IntervalKept c s) (sym (table-count row m)) (interval-in kind s timed (fine .1) (test-unmet 8 _ (fits .0 .own-kept)));
+        },
+        cc,
+      )
 
-pub accepted-follows : (s : List ℕ) (vs : List Value) → outcome₄ s ≡ read vs → (kind : PartKind) × (timed : Bool) × Follows₄ kind timed s × (vs ≡ values₄ kind timed s)
-unfolding outcome₄ asTemplate
-accepted-follows s vs e =
-    let head = opening-read 4 s _ 9 vs e in
-    let by = template-of (templateOf (beAt s 8 2)) s vs (head .2) in
-    let kind = by .0 in
-    let timed = by .1 in
-    let fits = template-read 4 s (read (values₄ kind timed s)) _ _ _ _ vs (by .3) in
-    let bad = sym (bad-is kind timed (rangesAt kind timed s) (membersAt kind s) (coordinatesAt s) s) ∙ fits .0 .in-range in
-    let fine = bad-clear (frontEnd kind) 1 common s _ (omega arith) bad in (
-      kind,
-      timed,
-      record {
-        small = head .0 .small;
-        whole = fits .0 .whole ∙ sym (table-total kind timed s);
-        says-length = head .0 .says-length;
-        says-number = head .0 .says-number;
-        names = by .2;
-        forecast-time = rw (table-places kind .0) (time-in (frontEnd kind) s (fine .0));
-        interval = interval-in kind s timed (fine .1) (test-unmet 8 _ (fits .0 .own-kept));
-      },
-      cc,
-    )
+  -- a number that no row has is not accepted
+  by-none : (template : Template) → template ≡ NotListed → byTemplate template s ≡ read vs → ⊥
+  unfolding byTemplate
+  by-none template n e = let z : _≡_ {A = ℕ} 0 1 = cc in omega arith
+
+  pub accepted-follows : outcome₄ s ≡ read vs → (row : TemplateRow) × Follows₄ row s × (vs ≡ values₄ (row .part) (isTimed row) s)
+  unfolding outcome₄
+  accepted-follows e =
+      let head = opening-read 4 s _ 9 vs e in
+      ⊎-elim (λ n. absurd (by-none (templateOf (beAt s 8 2)) n (head .2)))
+      (λ one. by-row (one .0) (one .1) (one .2) (head .0) (head .2))
+      (listed-or-not (beAt s 8 2))
 
 -- ---- it follows, so it is accepted
 
@@ -155,29 +146,36 @@ long-enough kind true zero nc nv h = let z : _≡_ {A = ℕ} 0 1 = cc in absurd 
 long-enough kind true (suc n) nc nv h = (omega arith, omega (arith, part-enough kind))
 long-enough kind false n nc nv h = (omega arith, omega (arith, part-enough kind))
 
-pub follows-total : (kind : PartKind) (timed : Bool) (s : List ℕ) → Follows₄ kind timed s → length s ≡ totalIn kind timed s
-follows-total kind timed s f = f .whole ∙ table-total kind timed s
+module _ (row : TemplateRow) (s : List ℕ) (f : Follows₄ row s) where
+  -- the outcome reads it by the row's part, and with time ranges where the row has them
+  pub follows-listed : templateOf (beAt s 8 2) ≡ Listed (row .part) (isTimed row)
+  follows-listed = ap templateOf (f .names) ∙ table-listed row (f .listed)
 
-pub follows-accepted : (kind : PartKind) (timed : Bool) (s : List ℕ) → Follows₄ kind timed s → outcome₄ s ≡ read (values₄ kind timed s)
-unfolding outcome₄ asTemplate byTemplate
-follows-accepted kind timed s f =
-    let l = follows-total kind timed s f in
-    let kept = in-interval kind s timed (f .interval) in
-    let enough = long-enough kind timed (rangesAt kind timed s) (membersAt kind s) (coordinatesAt s) (kept .1) in
-    let fine = in-time (frontEnd kind) s (rw (table-places kind .0) at (f .forecast-time)) in
-    let bad =
-    bad-is kind timed (rangesAt kind timed s) (membersAt kind s) (coordinatesAt s) s
-    ∙ clear-bad (after (frontEnd kind) common) s _ fine
-    ∙ kept .0
-    in
-    let headed : Headed 4 s = record { long = omega arith; small = f .small; says-length = f .says-length; says-number = f .says-number } in
-    let fits : Fits (total kind timed 1 0 0) (badPlace (after 0 (fieldsIn kind timed s)) s) (lackOfRanges timed (rangesAt kind timed s)) (totalIn kind timed s) s = record { enough = omega arith; in-range = bad; own-kept = rw (kept .1); whole = l } in
-    opening-last 4 s _ 9 headed (omega arith)
-    ∙ ap (λ (t : Template). byTemplate t s) (f .names)
-    ∙ template-last 4 s (read (values₄ kind timed s)) _ _ _ _ fits
+  pub follows-total : length s ≡ totalIn (row .part) (isTimed row) s
+  follows-total = f .whole ∙ sym (table-total row (f .listed) s)
 
-pub accepted-exactly-when : (s : List ℕ) → ((vs : List Value) × (outcome₄ s ≡ read vs)) ↔ ((kind : PartKind) × (timed : Bool) × Follows₄ kind timed s)
+  pub follows-accepted : outcome₄ s ≡ read (values₄ (row .part) (isTimed row) s)
+  unfolding outcome₄ asTemplate byTemplate
+  follows-accepted =
+      let kind = row .part in
+      let timed = isTimed row in
+      let l = follows-total in
+      let kept = in-interval kind s timed (subst (λ (c : CountAt). IntervalKept c s) (table-count row (f .listed)) (f .interval)) in
+      let enough = long-enough kind timed (rangesAt kind timed s) (membersAt kind s) (coordinatesAt s) (kept .1) in
+      let fine = in-time (frontEnd kind) s (rw (forecast-place row (f .listed)) at (f .forecast-time)) in
+      let bad =
+      bad-is kind timed (rangesAt kind timed s) (membersAt kind s) (coordinatesAt s) s
+      ∙ clear-bad (after (frontEnd kind) common) s _ fine
+      ∙ kept .0
+      in
+      let headed : Headed 4 s = record { long = omega arith; small = f .small; says-length = f .says-length; says-number = f .says-number } in
+      let fits : Fits (total kind timed 1 0 0) (badPlace (after 0 (fieldsIn kind timed s)) s) (lackOfRanges timed (rangesAt kind timed s)) (totalIn kind timed s) s = record { enough = omega arith; in-range = bad; own-kept = rw (kept .1); whole = l } in
+      opening-last 4 s _ 9 headed (omega arith)
+      ∙ ap (λ (t : Template). byTemplate t s) follows-listed
+      ∙ template-last 4 s (read (values₄ kind timed s)) _ _ _ _ fits
+
+pub accepted-exactly-when : (s : List ℕ) → ((vs : List Value) × (outcome₄ s ≡ read vs)) ↔ ((row : TemplateRow) × Follows₄ row s)
 accepted-exactly-when s = (
-  (λ a. let f = accepted-follows s (a .0) (a .1) in (f .0, f .1, f .2)),
-  (λ f. (values₄ (f .0) (f .1) s, follows-accepted (f .0) (f .1) s (f .2))),
+  (λ a. let f = accepted-follows s (a .0) (a .1) in (f .0, f .1)),
+  (λ f. (values₄ (f .0 .part) (isTimed (f .0)) s, follows-accepted (f .0) s (f .1))),
 )

@@ -24,7 +24,7 @@ use Rattle.product.specs.declared.Answer.the-variants.{Read, Refused}
 
 -- ---- blocks, from the values at the front of a list
 
-toProcess : List Value → Process
+unfoldable pub toProcess : List Value → Process
 toProcess vs =
     record {
       kind = naturalIn (getD vs 0 none);
@@ -34,13 +34,13 @@ toProcess vs =
       «cutoff_minutes» = naturalIn (getD vs 4 none);
     }
 
-toScaled : List Value → Scaled
+unfoldable pub toScaled : List Value → Scaled
 toScaled vs = record { factor = toSigned (getD vs 0 none); value = toSigned (getD vs 1 none) }
 
-toSurface : List Value → Surface
+unfoldable pub toSurface : List Value → Surface
 toSurface vs = record { kind = naturalIn (getD vs 0 none); level = toScaled (drop 1 vs) }
 
-toInterval : List Value → Interval
+unfoldable pub toInterval : List Value → Interval
 toInterval vs = by (getD vs 0 none)
   where
     by : Value → Interval
@@ -63,7 +63,7 @@ interval-back (Ends x) = refl
 
 -- ---- the part that a tag names, from the values ahead of the generating process and behind the surfaces
 
-toPart : ℕ → List Value → List Value → Part
+unfoldable pub toPart : ℕ → List Value → List Value → Part
 toPart zero ahead behind = partNone
 toPart (suc zero) ahead behind =
     isEnsemble
@@ -118,14 +118,14 @@ part-back (isProbability x) a b = simp backSigned
 part-back (isAerosol x) a b = simp backSigned
 
 -- how many values these are
-aheadCount : ℕ → ℕ
+unfoldable pub aheadCount : ℕ → ℕ
 aheadCount zero = 0
 aheadCount (suc zero) = 0
 aheadCount (suc (suc zero)) = 0
 aheadCount (suc (suc (suc zero))) = 0
 aheadCount (suc (suc (suc (suc n)))) = 6
 
-behindCount : ℕ → ℕ
+unfoldable pub behindCount : ℕ → ℕ
 behindCount zero = 0
 behindCount (suc zero) = 3
 behindCount (suc (suc zero)) = 15
@@ -150,7 +150,7 @@ skip-behind (isAerosol x) rest = refl
 
 -- ---- the answer that an outcome is of
 
-toProduct : List Value → Product
+unfoldable pub toProduct : List Value → Product
 toProduct vs =
     let t = naturalIn (getD vs 4 none) in
     let ahead = drop 7 vs in
@@ -170,7 +170,7 @@ toProduct vs =
       interval = toInterval (drop (behindCount t) behind);
     }
 
-product-back : (x : Product) → toProduct (valuesIn x) ≡ x
+pub product-back : (x : Product) → toProduct (valuesIn x) ≡ x
 unfolding toProduct toProcess toSurface toScaled valuesIn parameterIn processIn forecastIn surfaceIn scaledIn
 product-back x = simp (skip-ahead, skip-behind, back32, backSigned, part-back, interval-back)
 

@@ -1,8 +1,10 @@
 pub mod FieldsByBlock
+pub mod TableAgrees
 pub mod StarredProducts
 pub mod FieldsCoverOnce
 pub mod AcceptedExactlyWhen
 pub mod ViewsAreTheLayouts
 pub mod AnswersDetermined
+pub mod MeansByName
 pub mod Entries
 pub mod RefusalNumbers

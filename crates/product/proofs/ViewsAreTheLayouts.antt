@@ -21,18 +21,20 @@ use Rattle.layout.proofs.Spans.{octets-after, after-within}
 use Rattle.product.specs.Templates.{templateOf, partEnd, rangesEnd, total, rangesAt, membersAt, coordinatesAt, fieldsIn, totalIn}
 use Rattle.product.specs.Section4.{outcome₄}
 use Rattle.product.specs.Views.{templateRead, rangeBy, membersBy, coordinatesBy, rangeSpan, memberSpan, coordinateSpan, rangeOf, membersOf, coordinatesOf, firstStrung}
+use Rattle.product.specs.Table.{blank, octet, TemplateRow, countIn, isTimed}
 use Rattle.product.specs.Accepted.{Follows₄}
 use Rattle.product.specs.declared.templates.PartKind.{PartKind}
 use Rattle.product.specs.declared.templates.Template.{Template}
 use Rattle.product.specs.declared.templates.Template.the-variants.{NotListed, Listed}
 use Rattle.product.proofs.FieldsByBlock.{shown-are}
-use Rattle.product.proofs.AcceptedExactlyWhen.{accepted-follows, follows-accepted, follows-total}
+use Rattle.product.proofs.TableAgrees.{table-count, table-ranges, table-members, table-end}
+use Rattle.product.proofs.AcceptedExactlyWhen.{accepted-follows, follows-listed, follows-accepted, follows-total}
 
 -- ---- a section that is read
 
-template-is : (kind : PartKind) (timed : Bool) (s : List ℕ) → Follows₄ kind timed s → templateRead s ≡ Listed kind timed
+template-is : (row : TemplateRow) (s : List ℕ) → Follows₄ row s → templateRead s ≡ Listed (row .part) (isTimed row)
 unfolding ifRead
-template-is kind timed s f = rw (follows-accepted kind timed s f) (f .names)
+template-is row s f = rw (follows-accepted row s f) (follows-listed row s f)
 
 -- by a template, the k-th time range
 abbrev rangeShown : Template → List ℕ → ℕ → List ℕ
@@ -52,32 +54,43 @@ unfolding total rangesEnd rangesAt firstStrung
 ranges-by kind true s l = ranges-strung kind s (omega arith) (rangesAt kind true s) (omega arith)
 ranges-by kind false s l = refl
 
-views-by : (kind : PartKind) (timed : Bool) (s : List ℕ) → length s ≡ totalIn kind timed s → shownOf (after 0 (fieldsIn kind timed s)) s ≡ firstStrung (rangeShown (Listed kind timed) s) (rangesAt kind timed s) ∷ octetsIn (membersBy (Listed kind timed) s) s ∷ octetsIn (coordinatesBy (Listed kind timed) s) s ∷ []
+-- the members and the coordinates
+lists-by : (kind : PartKind) (timed : Bool) (s : List ℕ) → length s ≡ totalIn kind timed s
+    → (part s (rangesEnd kind timed (rangesAt kind timed s) + 1) (membersAt kind s) ≡ octetsIn (membersBy (Listed kind timed) s) s)
+    × (part s (rangesEnd kind timed (rangesAt kind timed s) + membersAt kind s + 1) (4 * coordinatesAt s) ≡ octetsIn (coordinatesBy (Listed kind timed) s) s)
 unfolding total membersBy coordinatesBy
-views-by kind timed s l =
-    let end = rangesEnd kind timed (rangesAt kind timed s) in
-    rw (
-      shown-are,
-      ranges-by kind timed s l,
-      part-take s end (membersAt kind s) (omega arith),
-      part-take s (end + membersAt kind s) (4 * coordinatesAt s) (omega arith),
-      octets-after end (membersAt kind s) s,
-      octets-after (end + membersAt kind s) (4 * coordinatesAt s) s,
+lists-by kind timed s l =
+    let end = rangesEnd kind timed (rangesAt kind timed s) in (
+      part-take s end (membersAt kind s) (omega arith) ∙ sym (octets-after end (membersAt kind s) s),
+      part-take s (end + membersAt kind s) (4 * coordinatesAt s) (omega arith)
+          ∙ sym (octets-after (end + membersAt kind s) (4 * coordinatesAt s) s),
     )
 
+views-by : (kind : PartKind) (timed : Bool) (s : List ℕ) → length s ≡ totalIn kind timed s → shownOf (after 0 (fieldsIn kind timed s)) s ≡ firstStrung (rangeShown (Listed kind timed) s) (rangesAt kind timed s) ∷ octetsIn (membersBy (Listed kind timed) s) s ∷ octetsIn (coordinatesBy (Listed kind timed) s) s ∷ []
+views-by kind timed s l =
+    let lists = lists-by kind timed s l in
+    rw (shown-are, ranges-by kind timed s l, lists .0, lists .1)
+
 -- the three lists that the layout shows are the time ranges, one after the other, the member list and the coordinate list
-pub views-shown : (kind : PartKind) (timed : Bool) (s : List ℕ) → Follows₄ kind timed s → shownOf (after 0 (fieldsIn kind timed s)) s ≡ firstStrung (rangeOf s) (rangesAt kind timed s) ∷ membersOf s ∷ coordinatesOf s ∷ []
-views-shown kind timed s f =
-    views-by kind timed s (follows-total kind timed s f)
-    ∙ ap (λ (t : Template). firstStrung (rangeShown t s) (rangesAt kind timed s) ∷ octetsIn (membersBy t s) s ∷ octetsIn (coordinatesBy t s) s ∷ []) (sym (template-is kind timed s f))
+pub views-shown : (row : TemplateRow) (s : List ℕ) → Follows₄ row s → shownOf (after 0 (fieldsIn (row .part) (isTimed row) s)) s ≡ firstStrung (rangeOf s) (countIn (row .ranges) s) ∷ membersOf s ∷ coordinatesOf s ∷ []
+views-shown row s f =
+    views-by (row .part) (isTimed row) s (follows-total row s f)
+    ∙ ap (λ (n : ℕ). shownBy (Listed (row .part) (isTimed row)) n) (table-ranges row (f .listed) s)
+    ∙ ap (λ (t : Template). shownBy t (countIn (row .ranges) s)) (sym (template-is row s f))
+  where
+    shownBy : Template → ℕ → List (List ℕ)
+    shownBy t n = firstStrung (rangeShown t s) n ∷ octetsIn (membersBy t s) s ∷ octetsIn (coordinatesBy t s) s ∷ []
 
 -- each time range is whole
-pub range-whole : (kind : PartKind) (timed : Bool) (s : List ℕ) → Follows₄ kind timed s → (k : ℕ) → k < rangesAt kind timed s → length (rangeOf s k) ≡ 12
+range-whole-by : (kind : PartKind) (timed : Bool) (s : List ℕ) → length s ≡ totalIn kind timed s → (k : ℕ) → k < rangesAt kind timed s → length (rangeShown (Listed kind timed) s k) ≡ 12
 unfolding rangeBy total rangesEnd rangesAt
-range-whole kind true s f k h =
-    rw (template-is kind true s f, lt-ltb k (rangesAt kind true s) h)
-    (simp (length-take, length-drop) (omega (arith, follows-total kind true s f)))
-range-whole kind false s f k h = absurd (omega arith)
+range-whole-by kind true s l k h = rw (lt-ltb k (rangesAt kind true s) h) (simp (length-take, length-drop) (omega arith))
+range-whole-by kind false s l k h = absurd (omega arith)
+
+pub range-whole : (row : TemplateRow) (s : List ℕ) → Follows₄ row s → (k : ℕ) → k < countIn (row .ranges) s → length (rangeOf s k) ≡ 12
+range-whole row s f k h =
+    rw (template-is row s f)
+    (range-whole-by (row .part) (isTimed row) s (follows-total row s f) k (rw (table-ranges row (f .listed) s) h))
 
 -- ---- where a list is said to stand, the section has its octets
 
@@ -85,7 +98,9 @@ range-whole kind false s f k h = absurd (omega arith)
 within-by : (by : Template → Span) (s : List ℕ) → by NotListed ≡ nowhere → ((kind : PartKind) (timed : Bool) → length s ≡ totalIn kind timed s → Within (by (Listed kind timed)) s) → Within (by (templateRead s)) s
 within-by by s none some =
     of-both (λ (t : Template). Within (by t) s) (outcome₄ s) (templateOf (beAt s 8 2)) NotListed (rw none (omega arith))
-    (λ vs e. let f = accepted-follows s vs e in rw (f .2 .names) (some (f .0) (f .1) (follows-total (f .0) (f .1) s (f .2))))
+    (λ vs e.
+    let f = accepted-follows s vs e in
+    rw (follows-listed (f .0) s (f .1)) (some (f .0 .part) (isTimed (f .0)) (follows-total (f .0) s (f .1))))
 
 pub range-within : (s : List ℕ) (k : ℕ) → Within (rangeSpan s k) s
 unfolding rangeBy total rangesEnd rangesAt
@@ -107,17 +122,46 @@ pub coordinates-within : (s : List ℕ) → Within (coordinateSpan s) s
 unfolding coordinatesBy total
 coordinates-within s = within-by (λ (t : Template). coordinatesBy t s) s refl (λ kind timed l. after-within (rangesEnd kind timed (rangesAt kind timed s) + membersAt kind s) (4 * coordinatesAt s) s (omega arith))
 
+-- ---- where they stand, by octet numbers
+
+range-at : (kind : PartKind) (timed : Bool) (s : List ℕ) → length s ≡ totalIn kind timed s → (p : ℕ) → cond timed (octet (partEnd kind + 8)) blank ≡ octet p → (k : ℕ) → k < beAt s p 1 → rangeShown (Listed kind timed) s k ≡ part s (p + 5 + 12 * k) 12
+unfolding rangeBy total rangesEnd rangesAt
+range-at kind true s l p e k h =
+    let counted : partEnd kind + 8 ≡ p = cc in
+    let first : p + 5 + 12 * k ≡ partEnd kind + 12 + 12 * k + 1 = omega arith in
+    let less : k < rangesAt kind true s = rw counted h in
+    rw (first, part-take s (partEnd kind + 12 + 12 * k) 12 (omega arith), lt-ltb k (rangesAt kind true s) less)
+range-at kind false s l p e k h = let z : _≡_ {A = ℕ} 0 1 = cc in absurd (omega arith)
+
+-- if n stands at octet p, the ranges start at p + 5, and each has 12 octets
+pub range-stands : (row : TemplateRow) (s : List ℕ) → Follows₄ row s → (p : ℕ) → row .ranges ≡ octet p → (k : ℕ) → k < beAt s p 1 → rangeOf s k ≡ part s (p + 5 + 12 * k) 12
+range-stands row s f p e k h =
+    rw (template-is row s f)
+    (range-at (row .part) (isTimed row) s (follows-total row s f) p (sym (table-count row (f .listed)) ∙ e) k h)
+
+-- the members follow the ranges, and the coordinates follow them
+pub members-stand : (row : TemplateRow) (s : List ℕ) → Follows₄ row s → membersOf s ≡ part s (row .octets + 12 * countIn (row .ranges) s + 1) (countIn (row .members) s)
+members-stand row s f =
+    rw (template-is row s f, ← table-end row (f .listed) s, ← table-members row (f .listed) s)
+    (sym (lists-by (row .part) (isTimed row) s (follows-total row s f) .0))
+
+pub coordinates-stand : (row : TemplateRow) (s : List ℕ) → Follows₄ row s → coordinatesOf s ≡ part s (row .octets + 12 * countIn (row .ranges) s + countIn (row .members) s + 1) (4 * beAt s 6 2)
+coordinates-stand row s f =
+    rw (template-is row s f, ← table-end row (f .listed) s, ← table-members row (f .listed) s)
+    (sym (lists-by (row .part) (isTimed row) s (follows-total row s f) .1))
+
 -- ---- nothing is shown
 
 -- from n up
-pub no-range : (kind : PartKind) (timed : Bool) (s : List ℕ) → Follows₄ kind timed s → (k : ℕ) → rangesAt kind timed s ≤ k → rangeOf s k ≡ []
+pub no-range : (row : TemplateRow) (s : List ℕ) → Follows₄ row s → (k : ℕ) → countIn (row .ranges) s ≤ k → rangeOf s k ≡ []
 unfolding rangeBy
-no-range kind timed s f k h = rw (template-is kind timed s f, le-ltb k (rangesAt kind timed s) h)
+no-range row s f k h =
+    rw (template-is row s f, le-ltb k (rangesAt (row .part) (isTimed row) s) (rw (table-ranges row (f .listed) s) h))
 
 -- of members where the template has none, or none are counted
-pub no-members : (kind : PartKind) (timed : Bool) (s : List ℕ) → Follows₄ kind timed s → membersAt kind s ≡ 0 → membersOf s ≡ []
+pub no-members : (row : TemplateRow) (s : List ℕ) → Follows₄ row s → countIn (row .members) s ≡ 0 → membersOf s ≡ []
 unfolding membersBy
-no-members kind timed s f h = rw (template-is kind timed s f, h)
+no-members row s f h = rw (template-is row s f, table-members row (f .listed) s, h)
 
 -- of a refused section
 pub refused-nothing : (s : List ℕ) (number section place : ℕ) → outcome₄ s ≡ refused number section place → ((k : ℕ) → rangeOf s k ≡ []) × (membersOf s ≡ []) × (coordinatesOf s ≡ [])

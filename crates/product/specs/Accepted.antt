@@ -2,45 +2,10 @@
 -- Assumes nothing.
 use Prim.Native.Nat.{ℕ, _+_, _-_, _*_, _≤_}
 use mathlib.Core.Path.{_≡_}
-use mathlib.Core.List.{List}
-use mathlib.Core.Bool.{Bool, true, false}
+use mathlib.Core.List.{List, List·Memᴰ}
 use lib.ListN.{length}
 use Rattle.octets.specs.Octets.{beAt}
-use Rattle.product.specs.Templates.{templateOf}
-use Rattle.product.specs.declared.templates.PartKind.{PartKind}
-use Rattle.product.specs.declared.templates.PartKind.the-variants.{None as noPart, Ensemble, Cluster, Probability, Aerosol}
-use Rattle.product.specs.declared.templates.Template.the-variants.{Listed}
-
--- document 01's table, its rows for 4.0, 4.1, 4.4, 4.5, 4.8, 4.9, 4.11, 4.14 and 4.46: the octets before the coordinate values, with n and
--- Nc where they stand
-abbrev pub octetsBefore : PartKind → Bool → List ℕ → ℕ
-octetsBefore noPart false s = 34
-octetsBefore Ensemble false s = 37
-octetsBefore Cluster false s = 64 + beAt s 54 1
-octetsBefore Probability false s = 47
-octetsBefore noPart true s = 46 + 12 * beAt s 42 1
-octetsBefore Probability true s = 59 + 12 * beAt s 55 1
-octetsBefore Ensemble true s = 49 + 12 * beAt s 45 1
-octetsBefore Cluster true s = 76 + 12 * beAt s 72 1 + beAt s 54 1
-octetsBefore Aerosol true s = 59 + 12 * beAt s 55 1
--- no listed template is so
-octetsBefore Aerosol false s = 47
-
--- the octet of n, in a template with time ranges
-abbrev pub countAt : PartKind → ℕ
-countAt noPart = 42
-countAt Ensemble = 45
-countAt Cluster = 72
-countAt Probability = 55
-countAt Aerosol = 55
-
--- the first octet of the forecast time
-abbrev pub forecastAt : PartKind → ℕ
-forecastAt noPart = 19
-forecastAt Ensemble = 19
-forecastAt Cluster = 19
-forecastAt Probability = 19
-forecastAt Aerosol = 32
+use Rattle.product.specs.Table.{CountAt, blank, octet, TemplateRow, templates₄, countIn}
 
 -- if n stands at octet p, the end of the interval is p-7 to p-1; n is not 0
 pub record EndKept (p : ℕ) (s : List ℕ) : Type 0 where
@@ -53,15 +18,17 @@ pub record EndKept (p : ℕ) (s : List ℕ) : Type 0 where
   pub ranges : beAt s p 1 ≡ 0 → ⊥
 
 -- where the template has time ranges
-abbrev pub IntervalKept : Bool → ℕ → List ℕ → Type 0
-IntervalKept true p s = EndKept p s
-IntervalKept false p s = Unit {0}
+abbrev pub IntervalKept : CountAt → List ℕ → Type 0
+IntervalKept blank s = Unit {0}
+IntervalKept (octet p) s = EndKept p s
 
-pub record Follows₄ (kind : PartKind) (timed : Bool) (s : List ℕ) : Type 0 where
+-- the template is one of document 01's table
+pub record Follows₄ (row : TemplateRow) (s : List ℕ) : Type 0 where
+  pub listed : List·Memᴰ row templates₄
   pub small : length s ≤ 65536
-  pub whole : length s ≡ octetsBefore kind timed s + 4 * beAt s 6 2
+  pub whole : length s ≡ row .octets + 12 * countIn (row .ranges) s + countIn (row .members) s + 4 * beAt s 6 2
   pub says-length : beAt s 1 4 ≡ length s
   pub says-number : beAt s 5 1 ≡ 4
-  pub names : templateOf (beAt s 8 2) ≡ Listed kind timed
-  pub forecast-time : beAt s (forecastAt kind) 4 ≡ 0xffffffff → ⊥
-  pub interval : IntervalKept timed (countAt kind) s
+  pub names : beAt s 8 2 ≡ row .number
+  pub forecast-time : beAt s (19 + row .moved) 4 ≡ 0xffffffff → ⊥
+  pub interval : IntervalKept (row .ranges) s

@@ -2,6 +2,8 @@ pub mod Blocks
 pub mod Templates
 pub mod Section4
 pub mod Views
+pub mod Table
 pub mod Accepted
+pub mod Means
 pub mod Examples
 pub mod Refused

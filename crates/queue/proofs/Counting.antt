@@ -1,4 +1,4 @@
--- Kept, passed and refused: each record counts once, so that the three sum to the records, and it counts as its slot was before and after.
+-- Kept, passed and refused: each record counts once, so that the three sum to the records, and it counts as its filing and its slot before and after say.
 -- Assumes nothing.
 use Prim.Native.Nat.{ℕ, _+_}
 use native.Mathlib.Nat.{zero-add}
@@ -17,6 +17,7 @@ use Rattle.queue.specs.Counting.{answersOf, countedAll, AllSaid, Reports
 use Rattle.queue.specs.declared.Counts.{Counts}
 use Rattle.queue.specs.declared.Progress.{Progress}
 use Rattle.queue.proofs.FiledQueues.{files}
+use Rattle.queue.proofs.RecordsAsCards.{record-there}
 
 pub one-more : (n : Counts) (a : Answer) → threeTogether (counted n a) ≡ threeTogether n + 1
 one-more n Kept = omega arith
@@ -47,7 +48,7 @@ stays-long s slot (accepted card) long = length-set (s .slots) slot _ ∙ long
 pub all-said : (rs : List Sent) (s : Shelf) → length (s .slots) ≡ 64 → AllSaid s rs
 unfolding AllSaid recordFiled
 all-said [] s long = tt
-all-said (r ∷ rs) s long = (said s (r .slot) (recordFiling r) long, all-said rs (recordFiled s r .shelf) (stays-long s (r .slot) (recordFiling r) long))
+all-said (r ∷ rs) s long = (said s (r .slot) (recordFiling r) long (record-there r), all-said rs (recordFiled s r .shelf) (stays-long s (r .slot) (recordFiling r) long))
 
 -- ---- so of a queue that is filed
 

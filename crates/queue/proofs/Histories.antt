@@ -1,6 +1,6 @@
 -- Demand 3: each slot holds the greatest card that was ever accepted for it, or is empty if none was; so shelves for whose slots the same
 -- cards were accepted are one shelf, whatever the order, the grouping and the repeats.
--- A history of fields and queues is one of cards, in which the refused ones were never sent, and the shelf's own theorems are cited.
+-- A history of cards, fields and queues is one of cards, in which the refused ones were never sent, and the shelf's own theorems are cited.
 -- Assumes nothing.
 use Prim.Native.Nat.{ℕ, _<_, _≤_}
 use native.Mathlib.Omega.{arith}
@@ -8,24 +8,21 @@ use mathlib.Core.Path.{_≡_, refl, sym, ap, ap₂, subst, _∙_}
 use mathlib.Core.List.{List, [], _∷_, _++_, List·Memᴰ, append-nil, append-assoc}
 use mathlib.Core.Bool.{Bool, true, false, cond}
 use lib.Dec.{eqb, ltb}
-use borrow.Author.Tests.{ltb-false, ne-eqb}
+use borrow.Author.Tests.{ltb-true, ltb-false, ne-eqb}
 use Rattle.cutting.specs.Cuts.{cutOf}
 use Rattle.card.specs.declared.Card.{Card}
-use Rattle.shelf.specs.Shelves.{slotAt, joinShelf}
+use Rattle.shelf.specs.Shelves.{slotAt, putShelf, joinShelf}
 use Rattle.shelf.specs.declared.Shelf.{Shelf}
 use Rattle.shelf.specs.History.{Keeps, Tidy}
-use Rattle.shelf.proofs.CardHistory.{CardHistory as Cards, start as noCards, put, join as joinCards, shelfOf as shelfOfCards, acceptedAt as acceptedCards, fileAll}
+use Rattle.shelf.proofs.CardHistory.{CardHistory as Cards, start as noCards, put as putCard, join as joinCards, shelfOf as shelfOfCards, acceptedAt as acceptedCards, fileAll}
 use Rattle.shelf.proofs.Histories.{tidy as tidy-cards, greatest-card as greatest-of-cards, any-order as any-order-of-cards}
 use Rattle.filing.specs.Filing.{Filing, refusedFiling, accepted, filingOf, filedBy, filedOf}
-use Rattle.filing.specs.declared.Issue.{Issue}
-use Rattle.queue.specs.Bodies.{bodyOf}
-use Rattle.queue.specs.Queues.{Sent, bodyFiling, recordFiling, fromStart, recordStep, queueRefusal, queueFiled}
-use Rattle.queue.specs.declared.Body.{Body}
-use Rattle.queue.specs.declared.Body.the-variants.{Five, NotFive}
-use Rattle.queue.proofs.RecordsAsCards.{cardBefore, cardsIn, one-card, records-are-cards}
-use Rattle.queue.specs.History.{FiledField, History, start, file, queue, join, shelfOf, acceptedOf, acceptedIn, recordsOf, acceptedAt}
+use Rattle.filing.proofs.SaidOfTheSlots.{SlotThere, slot-there}
+use Rattle.queue.specs.Queues.{Sent, recordFiling, fromStart, recordStep, queueRefusal, queueFiled}
+use Rattle.queue.proofs.RecordsAsCards.{cardBefore, cardsIn, one-card, records-are-cards, record-there}
+use Rattle.queue.specs.History.{FiledField, History, start, put, file, queue, join, shelfOf, acceptedPut, acceptedOf, acceptedIn, recordsOf, acceptedAt}
 
--- ---- a history of fields and queues as one of cards
+-- ---- a history of cards, fields and queues as one of cards
 
 abbrev filingOfField : ℕ → FiledField → Filing
 filingOfField slot x = filingOf slot (x .issue) (x .s1) (x .s3) (x .s4) (x .s5) (x .s7)
@@ -33,10 +30,11 @@ filingOfField slot x = filingOf slot (x .issue) (x .s1) (x .s3) (x .s4) (x .s5) 
 -- cards put one after the other
 ofCards : List (ℕ × Card) → Cards → Cards
 ofCards [] h = h
-ofCards (e ∷ es) h = ofCards es (put (e .0) (e .1) h)
+ofCards (e ∷ es) h = ofCards es (putCard (e .0) (e .1) h)
 
 ofHistory : History → Cards
 ofHistory start = noCards
+ofHistory (put slot card h) = putCard slot card (ofHistory h)
 ofHistory (file slot x h) = ofCards (cardBefore slot (filingOfField slot x) []) (ofHistory h)
 ofHistory (queue q h) = ofCards (cardsIn (recordsOf q)) (ofHistory h)
 ofHistory (join g h) = joinCards (ofHistory g) (ofHistory h)
@@ -46,7 +44,7 @@ ofHistory (join g h) = joinCards (ofHistory g) (ofHistory h)
 cards-shelf : (es : List (ℕ × Card)) (h : Cards) → fileAll es (shelfOfCards h) ≡ shelfOfCards (ofCards es h)
 unfolding fileAll ofCards shelfOfCards
 cards-shelf [] h = refl
-cards-shelf (e ∷ es) h = cards-shelf es (put (e .0) (e .1) h)
+cards-shelf (e ∷ es) h = cards-shelf es (putCard (e .0) (e .1) h)
 
 filing-shelf : (slot : ℕ) (f : Filing) (s : Shelf) → filedBy s slot f .shelf ≡ fileAll (cardBefore slot f []) s
 unfolding fileAll
@@ -63,6 +61,7 @@ queue-shelf q s = by-refusal (eqb (queueRefusal q) 0) refl
 same-shelves : (h : History) → shelfOf h ≡ shelfOfCards (ofHistory h)
 unfolding shelfOf shelfOfCards ofHistory filedOf
 same-shelves start = refl
+same-shelves (put slot card h) = ap (λ (s : Shelf). putShelf s slot card) (same-shelves h)
 same-shelves (file slot x h) =
     let cards = cardBefore slot (filingOfField slot x) [] in
     filing-shelf slot (filingOfField slot x) (shelfOf h) ∙ ap (fileAll cards) (same-shelves h) ∙ cards-shelf cards (ofHistory h)
@@ -81,7 +80,7 @@ among-cards : (n : ℕ) (es : List (ℕ × Card)) (h : Cards) → acceptedCards 
 unfolding acceptedAmong ofCards acceptedCards
 among-cards n [] h = append-nil (acceptedCards n h)
 among-cards n (e ∷ es) h =
-    sym (append-assoc (acceptedCards n h) (cond (eqb (e .0) n) (e .1 ∷ []) []) (acceptedAmong n es)) ∙ among-cards n es (put (e .0) (e .1) h)
+    sym (append-assoc (acceptedCards n h) (cond (eqb (e .0) n) (e .1 ∷ []) []) (acceptedAmong n es)) ∙ among-cards n es (putCard (e .0) (e .1) h)
 
 among-before : (n slot : ℕ) (f : Filing) (es : List (ℕ × Card)) → acceptedOf n slot f ++ acceptedAmong n es ≡ acceptedAmong n (cardBefore slot f es)
 unfolding acceptedOf acceptedAmong cardBefore
@@ -98,14 +97,23 @@ among-filing : (n slot : ℕ) (f : Filing) → acceptedOf n slot f ≡ acceptedA
 unfolding acceptedAmong
 among-filing n slot f = sym (append-nil (acceptedOf n slot f)) ∙ among-before n slot f []
 
-same-accepted : (n : ℕ) (h : History) → acceptedAt n h ≡ acceptedCards n (ofHistory h)
+-- a card that is put, for a slot that is there
+among-put : (n slot : ℕ) (card : Card) → n < 64 → acceptedPut n slot card ≡ cond (eqb slot n) (card ∷ []) []
+among-put n slot card l = by-slot (ltb 63 slot) refl
+  where
+    by-slot : (t : Bool) → ltb 63 slot ≡ t → cond t [] (cond (eqb slot n) (card ∷ []) []) ≡ cond (eqb slot n) (card ∷ []) []
+    by-slot true e = rw (ne-eqb slot n (λ q. let large : 63 < slot = ltb-true 63 slot e in omega arith))
+    by-slot false e = refl
+
+same-accepted : (n : ℕ) → n < 64 → (h : History) → acceptedAt n h ≡ acceptedCards n (ofHistory h)
 unfolding acceptedAt acceptedCards ofHistory
-same-accepted n start = refl
-same-accepted n (file slot x h) =
-    ap₂ (λ (k l : List Card). k ++ l) (same-accepted n h) (among-filing n slot (filingOfField slot x)) ∙ among-cards n (cardBefore slot (filingOfField slot x) []) (ofHistory h)
-same-accepted n (queue q h) =
-    ap₂ (λ (k l : List Card). k ++ l) (same-accepted n h) (among-records n (recordsOf q)) ∙ among-cards n (cardsIn (recordsOf q)) (ofHistory h)
-same-accepted n (join g h) = ap₂ (λ (k l : List Card). k ++ l) (same-accepted n g) (same-accepted n h)
+same-accepted n l start = refl
+same-accepted n l (put slot card h) = ap₂ (λ (k m : List Card). k ++ m) (same-accepted n l h) (among-put n slot card l)
+same-accepted n l (file slot x h) =
+    ap₂ (λ (k m : List Card). k ++ m) (same-accepted n l h) (among-filing n slot (filingOfField slot x)) ∙ among-cards n (cardBefore slot (filingOfField slot x) []) (ofHistory h)
+same-accepted n l (queue q h) =
+    ap₂ (λ (k m : List Card). k ++ m) (same-accepted n l h) (among-records n (recordsOf q)) ∙ among-cards n (cardsIn (recordsOf q)) (ofHistory h)
+same-accepted n l (join g h) = ap₂ (λ (k m : List Card). k ++ m) (same-accepted n l g) (same-accepted n l h)
 
 -- ---- the theorems
 
@@ -114,7 +122,7 @@ tidy h = rw (same-shelves h) (tidy-cards (ofHistory h))
 
 -- each slot holds the greatest card ever accepted for it, or is empty if none was
 pub greatest-card : (h : History) (n : ℕ) → n < 64 → Keeps (acceptedAt n h) (slotAt (shelfOf h) n)
-greatest-card h n l = rw (same-accepted n h, same-shelves h) (greatest-of-cards (ofHistory h) n l)
+greatest-card h n l = rw (same-accepted n l h, same-shelves h) (greatest-of-cards (ofHistory h) n l)
 
 -- so filing and joining may be done in any order, in any grouping and with repeats
 pub any-order : (g h : History) → ((n : ℕ) → n < 64 → (c : Card) → List·Memᴰ c (acceptedAt n g) → List·Memᴰ c (acceptedAt n h))
@@ -122,40 +130,35 @@ pub any-order : (g h : History) → ((n : ℕ) → n < 64 → (c : Card) → Lis
 any-order g h there back =
     same-shelves g
     ∙ any-order-of-cards (ofHistory g) (ofHistory h)
-    (λ n l c m. subst (List·Memᴰ c) (same-accepted n h) (there n l c (subst (List·Memᴰ c) (sym (same-accepted n g)) m)))
-    (λ n l c m. subst (List·Memᴰ c) (same-accepted n g) (back n l c (subst (List·Memᴰ c) (sym (same-accepted n h)) m)))
+    (λ n l c m. subst (List·Memᴰ c) (same-accepted n l h) (there n l c (subst (List·Memᴰ c) (sym (same-accepted n l g)) m)))
+    (λ n l c m. subst (List·Memᴰ c) (same-accepted n l g) (back n l c (subst (List·Memᴰ c) (sym (same-accepted n l h)) m)))
     ∙ sym (same-shelves h)
 
 -- ---- no card is ever accepted for a slot that is not there: 16
 
-other-slot : (n slot : ℕ) (f : Filing) → eqb slot n ≡ false → acceptedOf n slot f ≡ []
-unfolding acceptedOf
-other-slot n slot (refusedFiling number section place) e = refl
-other-slot n slot (accepted card) e = rw e
-
-field-past-63 : (n slot : ℕ) (issue : Issue) (s1 s3 s4 s5 s7 : List ℕ) → 64 ≤ n → acceptedOf n slot (filingOf slot issue s1 s3 s4 s5 s7) ≡ []
-unfolding acceptedOf filingOf
-field-past-63 n slot issue s1 s3 s4 s5 s7 l = by-slot (ltb 63 slot) refl
+put-past-63 : (n slot : ℕ) (card : Card) → 64 ≤ n → acceptedPut n slot card ≡ []
+put-past-63 n slot card l = by-slot (ltb 63 slot) refl
   where
-    by-slot : (t : Bool) → ltb 63 slot ≡ t → acceptedOf n slot (filingOf slot issue s1 s3 s4 s5 s7) ≡ []
-    by-slot true e = rw e
-    by-slot false e = other-slot n slot (filingOf slot issue s1 s3 s4 s5 s7) (ne-eqb slot n (λ q. let small : slot ≤ 63 = ltb-false 63 slot e in omega arith))
+    by-slot : (t : Bool) → ltb 63 slot ≡ t → cond t [] (cond (eqb slot n) (card ∷ []) []) ≡ []
+    by-slot true e = refl
+    by-slot false e = rw (ne-eqb slot n (λ q. let small : slot ≤ 63 = ltb-false 63 slot e in omega arith))
 
-body-past-63 : (n slot : ℕ) (issue : Issue) (s : List ℕ) (b : Body) → 64 ≤ n → acceptedOf n slot (bodyFiling slot issue s b) ≡ []
-unfolding acceptedOf bodyFiling
-body-past-63 n slot issue s NotFive l = refl
-body-past-63 n slot issue s (Five e) l = field-past-63 n slot issue _ _ _ _ _ l
+filing-past-63 : (n slot : ℕ) (f : Filing) → SlotThere slot f → 64 ≤ n → acceptedOf n slot f ≡ []
+unfolding acceptedOf
+filing-past-63 n slot (refusedFiling number section place) h l = refl
+filing-past-63 n slot (accepted card) h l = rw (ne-eqb slot n (λ q. omega arith))
 
 records-past-63 : (n : ℕ) (rs : List Sent) → 64 ≤ n → acceptedIn n rs ≡ []
-unfolding acceptedIn recordFiling
+unfolding acceptedIn
 records-past-63 n [] l = refl
-records-past-63 n (r ∷ rs) l =
-    ap₂ (λ (k m : List Card). k ++ m) (body-past-63 n (r .slot) (r .issue) (r .body) (bodyOf (r .body)) l) (records-past-63 n rs l)
+records-past-63 n (r ∷ rs) l = ap₂ (λ (k m : List Card). k ++ m) (filing-past-63 n (r .slot) (recordFiling r) (record-there r) l) (records-past-63 n rs l)
 
 pub none-past-63 : (h : History) (n : ℕ) → 64 ≤ n → acceptedAt n h ≡ []
 unfolding acceptedAt
 none-past-63 start n l = refl
+none-past-63 (put slot card h) n l = ap₂ (λ (k m : List Card). k ++ m) (none-past-63 h n l) (put-past-63 n slot card l)
 none-past-63 (file slot x h) n l =
-    ap₂ (λ (k m : List Card). k ++ m) (none-past-63 h n l) (field-past-63 n slot (x .issue) (x .s1) (x .s3) (x .s4) (x .s5) (x .s7) l)
+    ap₂ (λ (k m : List Card). k ++ m) (none-past-63 h n l)
+    (filing-past-63 n slot (filingOfField slot x) (slot-there slot (x .issue) (x .s1) (x .s3) (x .s4) (x .s5) (x .s7)) l)
 none-past-63 (queue q h) n l = ap₂ (λ (k m : List Card). k ++ m) (none-past-63 h n l) (records-past-63 n (recordsOf q) l)
 none-past-63 (join g h) n l = ap₂ (λ (k m : List Card). k ++ m) (none-past-63 g n l) (none-past-63 h n l)

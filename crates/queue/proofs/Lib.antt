@@ -4,6 +4,7 @@ pub mod Counting
 pub mod RecordsAsCards
 pub mod Histories
 pub mod QueueIsJoining
+pub mod HeldCards
 pub mod Concatenation
 pub mod StarredQueues
 pub mod Entries

@@ -7,7 +7,7 @@ use lib.ListN.{length}
 use Rattle.shelf.specs.declared.Shelf.{Shelf}
 use Rattle.filing.specs.Filing.{Said}
 use Rattle.filing.specs.declared.Answer.{Answer}
-use Rattle.queue.specs.Queues.{Sent, recordFiled, counted, threeTogether, fromStart}
+use Rattle.queue.specs.Queues.{Sent, recordFiling, recordFiled, counted, threeTogether, fromStart}
 use Rattle.queue.specs.declared.Counts.{Counts}
 
 -- what the records are answered, in the queue's order, each with the shelf that those before it left
@@ -20,10 +20,10 @@ unfoldable pub countedAll : Counts → List Answer → Counts
 countedAll n [] = n
 countedAll n (a ∷ rest) = countedAll (counted n a) rest
 
--- of each record, with the shelf before and after it: it is answered as its slot was (`Said`)
+-- of each record, with its filing and the shelf before and after it: it is answered as these are (`Said`)
 unfoldable pub AllSaid : Shelf → List Sent → Type 0
 AllSaid s [] = Unit {0}
-AllSaid s (r ∷ rs) = Said s (r .slot) (recordFiled s r .shelf) (recordFiled s r .answer) × AllSaid (recordFiled s r .shelf) rs
+AllSaid s (r ∷ rs) = Said s (r .slot) (recordFiling r) (recordFiled s r .shelf) (recordFiled s r .answer) × AllSaid (recordFiled s r .shelf) rs
 
 -- these are the counts of records that are filed to a shelf; every shelf has 64 slots
 pub record Reports (shelf : Shelf) (records : List Sent) (n : Counts) : Type 0 where

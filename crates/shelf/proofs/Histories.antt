@@ -74,7 +74,7 @@ greatest-card (put m c h) n l = go (eqb m n) refl (greatest-card h n l)
         let same : m ≡ n = eqb-true m n e in
         rw (e, same, put-same (shelfOf h) n c (tidy h .long) l) (keeps-both k (keeps-one c))
     go false e k = rw (e, append-nil (acceptedAt n h), put-other (shelfOf h) m n c (λ d. eqb-false m n e (sym d))) k
-greatest-card (join g h) n l = rw (join-at (shelfOf g) (shelfOf h) n (tidy g) (tidy h) l) (keeps-both (greatest-card g n l) (greatest-card h n l))
+greatest-card (join g h) n l = rw (join-at (shelfOf g) (shelfOf h) n (tidy g .long) (tidy h .long) l) (keeps-both (greatest-card g n l) (greatest-card h n l))
 
 -- what a slot keeps is settled by which cards there are, whatever their order and however often
 keeps-same : {l m : List Card} {s t : Slot} → ((c : Card) → List·Memᴰ c l → List·Memᴰ c m) → ((c : Card) → List·Memᴰ c m → List·Memᴰ c l) → Keeps l s → Keeps m t → s ≡ t

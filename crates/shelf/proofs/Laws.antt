@@ -12,7 +12,7 @@ use lib.Dec.{ltb}
 use borrow.Author.Tests.{lt-ltb, ltb-true}
 use lib.Seq.{getD-set-same, getD-set-other, set-getD, set-out}
 use Rattle.card.specs.declared.Card.{Card}
-use Rattle.card.proofs.Strict.{Join, max-left, max-right}
+use Rattle.card.proofs.Strict.{Join, less-apart, max-left, max-right}
 use Rattle.shelf.specs.declared.Slot.{Slot}
 use Rattle.shelf.specs.declared.Shelf.{Shelf}
 use Rattle.shelf.specs.Shelves.{lessSlot, greaterSlot, blank, holding, slotAt, emptyShelf, putShelf, putOf, joinShelf}
@@ -47,8 +47,8 @@ put-same s n c long h = getD-set-same (s .slots) n _ blank (omega arith)
 pub put-other : (s : Shelf) (n k : ℕ) (c : Card) → k ≢ n → slotAt (putShelf s n c) k ≡ slotAt s k
 put-other s n k c d = getD-set-other (s .slots) n k _ blank d
 
-pub join-at : (a b : Shelf) (n : ℕ) → Tidy a → Tidy b → n < 64 → slotAt (joinShelf a b) n ≡ greaterSlot (slotAt a n) (slotAt b n)
-join-at a b n s t h = zip-at greaterSlot n (a .slots) (b .slots) blank (omega (arith, s .long)) (omega (arith, t .long))
+pub join-at : (a b : Shelf) (n : ℕ) → length (a .slots) ≡ 64 → length (b .slots) ≡ 64 → n < 64 → slotAt (joinShelf a b) n ≡ greaterSlot (slotAt a n) (slotAt b n)
+join-at a b n s t h = zip-at greaterSlot n (a .slots) (b .slots) blank (omega arith) (omega arith)
 
 pub tidy-put : (s : Shelf) (n : ℕ) (c : Card) → Tidy s → Tidy (putShelf s n c)
 tidy-put s n c t =
@@ -68,7 +68,7 @@ pub tidy-join : (a b : Shelf) → Tidy a → Tidy b → Tidy (joinShelf a b)
 tidy-join a b s t =
     record {
       long = zip-length greaterSlot 64 (a .slots) (b .slots) (s .long) (t .long);
-      clean = λ n h. rw (join-at a b n s t h) (one-of Clean (slotAt a n) (slotAt b n) (s .clean n h) (t .clean n h));
+      clean = λ n h. rw (join-at a b n (s .long) (t .long) h) (one-of Clean (slotAt a n) (slotAt b n) (s .clean n h) (t .clean n h));
     }
 
 -- ---- the empty shelf, one card, a list of cards
@@ -101,27 +101,31 @@ file-is-join (e ∷ q) s t =
     shelf-join .assoc s (putShelf emptyShelf (e .0) (e .1)) (fileAll q emptyShelf) ∙
     ap (joinShelf s) (sym (file-is-join q (putShelf emptyShelf (e .0) (e .1)) (tidy-put emptyShelf (e .0) (e .1) tidy-empty)))
 
--- ---- what is said of a card that was put, on any shelf of 64 slots: that its slot changed, exactly when it did
+-- ---- a card that was put, on any shelf of 64 slots
+
+-- the slot holds it where it is greater than what was there
+pub put-raises : (s : Shelf) (n : ℕ) (c : Card) → length (s .slots) ≡ 64 → n < 64 → lessSlot (slotAt s n) (holding c) ≡ true → slotAt (putShelf s n c) n ≡ holding c
+unfolding greaterSlot
+put-raises s n c long h k = put-same s n c long h ∙ max-right slot-strict _ _ k
+
+-- and nothing changes where it is not
+pub put-stays : (s : Shelf) (n : ℕ) (c : Card) → lessSlot (slotAt s n) (holding c) ≡ false → putShelf s n c ≡ s
+unfolding greaterSlot
+put-stays s n c k = ap shelf (ap (set (s .slots) n) (max-left slot-strict _ _ k) ∙ set-getD (s .slots) n blank)
+
+-- what is said of it: that its slot changed, exactly when it did
 
 pub unchanged-same : (s : Shelf) (n : ℕ) (c : Card) → length (s .slots) ≡ 64 → putOf s n c .changed ≡ false → putShelf s n c ≡ s
-unfolding greaterSlot
 unchanged-same s n c long k = by-room (decLe 64 n)
   where
     by-room : Dec (64 ≤ n) → putShelf s n c ≡ s
     by-room (yes h) = ap shelf (set-out (s .slots) n _ (omega arith))
-    by-room (no d) =
-        let l : ltb n 64 ≡ true = lt-ltb n 64 (omega arith) in
-        let k′ : lessSlot (slotAt s n) (holding c) ≡ false = rw l at k in
-        ap shelf (ap (set (s .slots) n) (max-left slot-strict _ _ k′) ∙ set-getD (s .slots) n blank)
+    by-room (no d) = let l : ltb n 64 ≡ true = lt-ltb n 64 (omega arith) in put-stays s n c (rw l at k)
 
 pub changed-differs : (s : Shelf) (n : ℕ) (c : Card) → length (s .slots) ≡ 64 → putOf s n c .changed ≡ true → slotAt (putShelf s n c) n ≢ slotAt s n
-unfolding greaterSlot
 changed-differs s n c long k e =
     let b = both-hold (ltb n 64) (lessSlot (slotAt s n) (holding c)) k in
-    true≢false
-    (sym (b .1)
-    ∙ subst (λ (z : Slot). lessSlot (slotAt s n) z ≡ false) (sym e ∙ put-same s n c long (ltb-true _ _ (b .0)) ∙ max-right slot-strict _ _ (b .1))
-    (slot-strict .irrefl (slotAt s n)))
+    less-apart slot-strict (b .1) (sym e ∙ put-raises s n c long (ltb-true _ _ (b .0)) (b .1))
   where
     both-hold : (a b : Bool) → (a && b) ≡ true → (a ≡ true) × (b ≡ true)
     both-hold true b e = (refl, e)

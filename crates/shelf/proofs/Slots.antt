@@ -40,9 +40,13 @@ unfolding lessSlot slotKey lessCard
 slot-same a b e = lex-same Z-strict _ _ (ap heldKey e)
 
 -- an empty slot is below each that holds a card
+pub empty-below : (s : Slot) (c : Card) → s .held ≡ false → lessSlot s (holding c) ≡ true
+unfolding lessSlot slotKey lex
+empty-below s c e = rw e
+
 pub blank-below : (c : Card) → lessSlot blank (holding c) ≡ true
-unfolding lessSlot slotKey lex blank
-blank-below c = refl
+unfolding blank
+blank-below c = empty-below blank c refl
 
 pub held-above : (s : Slot) → s .held ≡ true → lessSlot s blank ≡ false
 unfolding lessSlot slotKey lex blank

@@ -3,14 +3,17 @@
 use mathlib.Core.Path.{_≡_, refl, sym, ap, ap₂, subst⁻¹, _∙_}
 use mathlib.Core.Bool.{Bool, true, false, cond, true≢false}
 use mathlib.Core.List.{List, [], _∷_, _++_}
+use mathlib.Core.Logic.{_≢_}
 use Prim.Native.Nat.{ℕ, zero, suc, _+_, _*_, _≤_, _<_}
 use native.Mathlib.Decide.{ℕ-discrete}
 use native.Mathlib.Omega.{arith}
-use native.Mathlib.Nat.{not-suc-le-zero, le-of-suc-le-suc}
+use native.Mathlib.Nat.{add-zero, not-suc-le-zero, le-of-suc-le-suc}
+use native.Mathlib.Numerals.{add-one}
 use lib.Dec.{eqb}
-use lib.ListN.{length, take, drop, replicate, getD, length-append, getD-replicate, replicate-append-replicate}
-use lib.Seq.{take-at, drop-at, take-all, drop-cons, drop-drop}
-use Rattle.octets.specs.Octets.{beAt, part, be, digits, AllOctets}
+use lib.ListN.{length, take, drop, replicate, getD, length-append, length-replicate, getD-replicate, replicate-append-replicate}
+use lib.Seq.{take-at, drop-at, take-all, drop-cons, drop-drop, getD-take, getD-drop, ext-getD}
+use borrow.Author.Tests.{ne-eqb}
+use Rattle.octets.specs.Octets.{octet, beAt, part, be, digits, AllOctets}
 use Rattle.octets.proofs.Laws.{part-length, part-all, part-behind, beAt-one, beAt-below, take-octets, drop-octets}
 use Rattle.octets.proofs.Digits.{beAt-digits}
 use Rattle.lent.specs.Rows.{inTurn}
@@ -130,6 +133,27 @@ stored-in o a =
           (λ t b. one-slot (λ s. Held (s .card)) t blank-held (card-held t b)) blank-held 64 n o a;
     }
 
+-- ---- octets in which no slot is held
+
+-- the first octet of a slot
+first-octet : (o : List ℕ) (n : ℕ) → beAt (take 41 (drop (41 * n) o)) 1 1 ≡ octet o (41 * n + 1)
+first-octet o n =
+    beAt-one (take 41 (drop (41 * n) o)) 1
+    ∙ getD-take 41 (drop (41 * n) o) 0 0 (omega arith)
+    ∙ getD-drop (41 * n) o 0 0
+    ∙ rw (add-zero, add-one)
+
+-- they say the empty shelf, whatever else they are
+pub none-held : (o : List ℕ) → ((n : ℕ) → n < 64 → octet o (41 * n + 1) ≢ 1) → shelfIn o ≡ emptyShelf
+unfolding slotIn
+none-held o d =
+    ap shelf
+    (ext-getD blank (slotsIn 64 o) (replicate 64 blank) (slots-length 64 o ∙ sym (length-replicate 64 blank))
+    (λ n l.
+    let below : n < 64 = omega (arith, slots-length 64 o) in
+    slot-of 64 n o below
+    ∙ rw (first-octet o n, ne-eqb (octet o (41 * n + 1)) 1 (d n below)) (sym (getD-replicate 64 n blank blank below))))
+
 -- ---- the shelves that the functions make of them
 
 pub stored-empty : Stored emptyShelf
@@ -153,7 +177,7 @@ pub stored-join : (a b : Shelf) → Stored a → Stored b → Stored (joinShelf 
 stored-join a b s t =
     record {
       tidy = tidy-join a b (s .tidy) (t .tidy);
-      cards = λ n h. subst⁻¹ (λ (z : Slot). Held (z .card)) (join-at a b n (s .tidy) (t .tidy) h)
+      cards = λ n h. subst⁻¹ (λ (z : Slot). Held (z .card)) (join-at a b n (s .tidy .long) (t .tidy .long) h)
           (one-of (λ z. Held (z .card)) (slotAt a n) (slotAt b n) (s .cards n h) (t .cards n h));
     }
 

@@ -51,7 +51,7 @@ accepted-follows section s =
     each-section (λ n o. (vs : List Value) → o ≡ read vs → (f : FollowsNumbered n s) × (vs ≡ valuesNumbered n s f)) s
     (λ vs e. let a = follows₁ s vs e in (section-1 refl (a .0) (a .1), a .2))
     (λ vs e. let a = follows₃ s vs e in (section-3 refl (a .0) (a .1), a .2))
-    (λ vs e. let a = follows₄ s vs e in (section-4 refl (a .0) (a .1) (a .2), a .3))
+    (λ vs e. let a = follows₄ s vs e in (section-4 refl (a .0) (a .1), a .2))
     (λ vs e. let a = accepted-follows₅ s vs e in (section-5 refl (a .0), a .1))
     (λ vs e. let a = accepted-follows₇alone s vs e in (section-7 refl (a .0), a .1))
     (λ n t vs e. let z : _≡_ {A = ℕ} 0 1 = cc in absurd (omega arith)) section
@@ -62,7 +62,7 @@ pub follows-accepted : (section : ℕ) (s : List ℕ) (f : FollowsNumbered secti
 unfolding sectionOutcome valuesNumbered
 follows-accepted section s (section-1 e template f) = ap (λ (n : ℕ). sectionOutcome n s) e ∙ accepted₁ template s f
 follows-accepted section s (section-3 e template f) = ap (λ (n : ℕ). sectionOutcome n s) e ∙ accepted₃ template s f
-follows-accepted section s (section-4 e kind timed f) = ap (λ (n : ℕ). sectionOutcome n s) e ∙ accepted₄ kind timed s f
+follows-accepted section s (section-4 e template f) = ap (λ (n : ℕ). sectionOutcome n s) e ∙ accepted₄ template s f
 follows-accepted section s (section-5 e f) = ap (λ (n : ℕ). sectionOutcome n s) e ∙ follows-accepted₅ s f
 follows-accepted section s (section-7 e f) = ap (λ (n : ℕ). sectionOutcome n s) e ∙ follows-accepted₇alone s f
 

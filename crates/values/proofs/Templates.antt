@@ -25,11 +25,12 @@ use Rattle.grid.proofs.AcceptedExactlyWhen.{accepted-follows as follows₃, nam
 use Rattle.product.specs.Blocks.{head, parameter, process, forecast, scaled, surface, common, ensemble, cluster, probability, aerosol, interval}
 use Rattle.product.specs.Templates.{fields₄, front, ahead, behind, timeRanges, lists, templateOf}
 use Rattle.product.specs.Section4.{outcome₄}
+use Rattle.product.specs.Table.{isTimed}
 use Rattle.product.specs.declared.templates.PartKind.{PartKind}
 use Rattle.product.specs.declared.templates.PartKind.the-variants.{None as noPart, Ensemble, Cluster, Probability, Aerosol}
 use Rattle.product.specs.declared.templates.Template.{Template as Template₄}
 use Rattle.product.specs.declared.templates.Template.the-variants.{NotListed, Listed}
-use Rattle.product.proofs.AcceptedExactlyWhen.{accepted-follows as follows₄}
+use Rattle.product.proofs.AcceptedExactlyWhen.{accepted-follows as follows₄, follows-listed}
 use Rattle.packing.specs.Section5.{fields₅, outcome₅}
 use Rattle.packing.specs.Section7.{outcome₇alone}
 use Rattle.packing.proofs.AcceptedExactlyWhen.{accepted-follows₅, accepted-follows₇alone}
@@ -141,10 +142,12 @@ spelt₄ Aerosol false n nc nv = refl
 pub row₄ : (s : List ℕ) (t : Template₄) (row row′ : List ℤ) → templateOf (beAt s 8 2) ≡ t → row′ ≡ withCount (numbersBy (word₄ t) 1 s) row → PutsRecord (outcome₄ s) row row′
 row₄ s t row row′ by e vs accepted =
     let f = follows₄ s vs accepted in
-    let same = sym (f .2 .names) ∙ by in
+    let kind = f .0 .part in
+    let timed = isTimed (f .0) in
+    let same = sym (follows-listed (f .0) s (f .1)) ∙ by in
     stands row vs e
-    (ap numbersIn (f .3)
-    ∙ spelt-numbers _ (word₄ (Listed (f .0) (f .1))) 0 1 s (spelt₄ (f .0) (f .1) _ _ _)
+    (ap numbersIn (f .2)
+    ∙ spelt-numbers _ (word₄ (Listed kind timed)) 0 1 s (spelt₄ kind timed _ _ _)
     ∙ ap (λ (t : Template₄). numbersBy (word₄ t) 1 s) same)
 
 -- ---- sections 5 and 7

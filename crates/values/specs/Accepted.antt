@@ -2,7 +2,6 @@
 -- Assumes nothing.
 use Prim.Native.Nat.{ℕ, _≤_}
 use mathlib.Core.Path.{_≡_}
-use mathlib.Core.Bool.{Bool}
 use mathlib.Core.List.{List}
 use lib.IntN.{ℤ}
 use lib.ListN.{length}
@@ -13,9 +12,9 @@ use Rattle.identification.specs.declared.Template.{Template as Template₁}
 use Rattle.grid.specs.Templates.{values₃}
 use Rattle.grid.specs.Accepted.{Follows₃}
 use Rattle.grid.specs.declared.templates.Template.{Template as Template₃}
+use Rattle.product.specs.Table.{TemplateRow, isTimed}
 use Rattle.product.specs.Templates.{values₄}
 use Rattle.product.specs.Accepted.{Follows₄}
-use Rattle.product.specs.declared.templates.PartKind.{PartKind}
 use Rattle.packing.specs.Section5.{fields₅}
 use Rattle.packing.specs.Section7.{values₇}
 use Rattle.packing.specs.Accepted.{Follows₅, Follows₇alone}
@@ -24,7 +23,7 @@ use Rattle.packing.specs.Accepted.{Follows₅, Follows₇alone}
 pub data FollowsNumbered (section : ℕ) (s : List ℕ) : Type 0 where
   section-1 : section ≡ 1 → (template : Template₁) → Follows₁ template s → FollowsNumbered section s
   section-3 : section ≡ 3 → (template : Template₃) → Follows₃ template s → FollowsNumbered section s
-  section-4 : section ≡ 4 → (kind : PartKind) → (timed : Bool) → Follows₄ kind timed s → FollowsNumbered section s
+  section-4 : section ≡ 4 → (template : TemplateRow) → Follows₄ template s → FollowsNumbered section s
   section-5 : section ≡ 5 → Follows₅ s → FollowsNumbered section s
   section-7 : section ≡ 7 → Follows₇alone s → FollowsNumbered section s
 
@@ -32,7 +31,7 @@ pub data FollowsNumbered (section : ℕ) (s : List ℕ) : Type 0 where
 unfoldable pub valuesNumbered : (section : ℕ) (s : List ℕ) → FollowsNumbered section s → List Value
 valuesNumbered section s (section-1 e template f) = values₁ template s
 valuesNumbered section s (section-3 e template f) = values₃ template s
-valuesNumbered section s (section-4 e kind timed f) = values₄ kind timed s
+valuesNumbered section s (section-4 e template f) = values₄ (template .part) (isTimed template) s
 valuesNumbered section s (section-5 e f) = valuesOf (after 0 fields₅) s
 valuesNumbered section s (section-7 e f) = values₇ s
 
