@@ -4,52 +4,53 @@
 -- with that premise is about every answer `a` that the contract allows.
 -- Assumes nothing.
 
--- "What is read out is what those octets mean.", of C: it is told the record's numbers, exactly where the section is accepted and there is room.
-pub use Rattle.skogmund.proofs.RecordTold.{told-exactly-when, record-told}
--- "follows the WMO FM 92 template layouts": the first octet of each field of each template, as the layouts have them
-pub use Rattle.identification.proofs.FieldsCoverOnce.{at-none, at-1-0, at-1-1, at-1-2}
-pub use Rattle.grid.proofs.FieldsCoverOnce.{at-3-0, at-3-1, at-3-2, at-3-3}
--- and of section 4: exactly the templates of document 01's table (`product/specs/Table.antt`) are listed, each with the table's part, and the total
--- and n that refusals look at are the table's, the forecast time that of the layouts
+-- "What is read out is what those octets mean.", of C: it is told the record's numbers, exactly where the section follows (`FollowsNumbered`,
+-- `values/specs/Accepted.antt`) and there is room.
+pub use Rattle.skogmund.proofs.RecordTold.{told-exactly-when, record-told, told-record}
+-- "follows the WMO FM 92 template layouts", of section 4: exactly the templates of document 01's table (`product/specs/Table.antt`) are listed, each
+-- with the table's part, and the total and n that refusals look at are the table's, the forecast time that of the layouts
 pub use Rattle.product.proofs.TableAgrees.{table-listed, table-only, table-process, table-count, table-total}
 -- The rest are the theorems of this file.
-use Prim.Native.Nat.{ℕ, zero, suc, _+_, _*_, _<_, _≤_}
+use Prim.Native.Nat.{ℕ, zero, suc, _+_, _-_, _*_, _<_, _≤_}
 use native.Mathlib.Omega.{arith}
 use mathlib.Core.Path.{_≡_, refl, sym, ap, subst, _∙_}
 use mathlib.Core.Bool.{true, cond}
 use mathlib.Core.Logic.{_↔_}
 use mathlib.Core.List.{List, [], _∷_}
 use lib.Dec.{eqb}
-use lib.ListN.{length, getD, take, drop}
+use lib.ListN.{length, getD, take, drop, replicate}
 use borrow.Author.Tests.{ne-eqb}
 use Rattle.octets.specs.Octets.{part, beAt}
 use Rattle.octets.proofs.Laws.{part-take}
-use Rattle.layout.specs.Fields.{Value, plain, after, valuesOf, octetsOf, Covered}
-use Rattle.layout.specs.Outcomes.{Outcome, refused, read, andThen, firstOf}
+use Rattle.layout.specs.Fields.{Value, after, valuesOf, Covered}
+use Rattle.layout.specs.Outcomes.{Outcome, refused, read}
 use Rattle.layout.proofs.Outcomes.{NoneHold, read-none}
-use Rattle.layout.proofs.Ranges.{test-same, same-test}
 use Rattle.layout.specs.Shown.{shownOf}
 use Rattle.layout.specs.Spans.{octetsIn, Within}
 use Rattle.identification.specs.Section1 as one
-use Rattle.identification.specs.Accepted.{Follows₁}
+use Rattle.identification.specs.Accepted.{Follows₁, octets₁}
+use Rattle.identification.specs.Means.{Means₁}
 use Rattle.identification.specs.declared.Answer.{Answer as Answer₁}
 use Rattle.identification.specs.declared.Answer.the-variants.{Read as Read₁}
 use Rattle.identification.specs.declared.Identification.{Identification}
 use Rattle.identification.specs.declared.Template.{Template as Template₁}
 use Rattle.identification.proofs.AcceptedExactlyWhen.{accepted-exactly-when as exactly₁, accepted-follows as follows₁}
-use Rattle.identification.proofs.FieldsCoverOnce.{covered as covered₁}
+use Rattle.identification.proofs.FieldsCoverOnce.{covered₁}
+use Rattle.identification.proofs.MeansByName.{means₁}
 use Rattle.grid.specs.Blocks.{valuesIn as valuesIn₃, hasList}
 use Rattle.grid.specs.Templates.{fields₃, listWidth, listCount, listOctets, baseEnd, values₃}
 use Rattle.grid.specs.Points.{sumOf}
 use Rattle.grid.specs.Section3 as three
 use Rattle.grid.specs.Views.{list₃}
-use Rattle.grid.specs.Accepted.{Follows₃, NoList}
+use Rattle.grid.specs.Accepted.{Follows₃, NoList, octets₃}
+use Rattle.grid.specs.Means.{Means₃}
 use Rattle.grid.specs.declared.Answer.{Answer as Answer₃}
 use Rattle.grid.specs.declared.Answer.the-variants.{Read as Read₃}
 use Rattle.grid.specs.declared.blocks.Grid.{Grid}
 use Rattle.grid.specs.declared.templates.Template.{Template as Template₃}
 use Rattle.grid.proofs.AcceptedExactlyWhen.{accepted-exactly-when as exactly₃, accepted-follows as follows₃, all-fits}
-use Rattle.grid.proofs.FieldsCoverOnce.{covered as covered₃}
+use Rattle.grid.proofs.FieldsCoverOnce.{covered₃}
+use Rattle.grid.proofs.MeansByName.{means₃}
 use Rattle.grid.proofs.ListShown.{those-very-octets, without-a-list, points-are-its-sum, refused-shows-none}
 use Rattle.product.specs.Blocks.{valuesIn as valuesIn₄}
 use Rattle.product.specs.Templates.{fieldsIn, values₄}
@@ -66,22 +67,24 @@ use Rattle.product.proofs.FieldsCoverOnce.{covered₄}
 use Rattle.product.proofs.MeansByName.{means₄}
 use Rattle.product.proofs.ViewsAreTheLayouts.{views-shown, range-stands, members-stand, coordinates-stand, range-whole, no-range, no-members, refused-nothing}
 use Rattle.lent.proofs.Rows.{each-filled}
-use Rattle.packing.specs.Packed.{bitsFrom, packedAt, unpacked}
-use Rattle.packing.specs.Unpacking.{unpackOutcome, rowBy, rowAfter, toldUnpacked, Unpacks}
+use Rattle.packing.specs.Packed.{bitAt, bitsFrom, packedAt, unpacked}
+use Rattle.packing.specs.Unpacking.{toldUnpacked, Unpacks}
+use Rattle.packing.specs.declared.Unpacked.{Unpacked}
 use Rattle.packing.specs.declared.Unpacked.the-variants.{Written}
 use Rattle.packing.specs.Section5 as five
 use Rattle.packing.specs.Section7 as seven
-use Rattle.packing.specs.Accepted.{Follows₅, Follows₇, octets₅, octets₇}
+use Rattle.packing.specs.Accepted.{Follows₅, Follows₇alone, Follows₇, octets₅, octets₇alone, octets₇}
 use Rattle.packing.specs.declared.Answer.{Answer as Answer₅}
 use Rattle.packing.specs.declared.Answer.the-variants.{Read as Read₅}
 use Rattle.packing.specs.declared.Packing.{Packing}
 use Rattle.packing.specs.declared.DataAnswer.{DataAnswer}
 use Rattle.packing.specs.declared.DataAnswer.the-variants.{Read as Read₇}
 use Rattle.packing.specs.declared.DataSection.{DataSection}
-use Rattle.packing.proofs.AcceptedExactlyWhen.{accepted-exactly-when₅, accepted-follows₅, accepted-exactly-when₇, accepted-follows₇}
-use Rattle.packing.proofs.FieldsCoverOnce.{covered₅, covered₇}
-use Rattle.packing.specs.Means.{Means₅}
-use Rattle.packing.proofs.MeansByName.{means₅}
+use Rattle.packing.proofs.AcceptedExactlyWhen.{accepted-exactly-when₅, accepted-follows₅, accepted-exactly-when₇alone, accepted-follows₇alone, fields-say₇, accepted-exactly-when₇, accepted-follows₇}
+use Rattle.packing.proofs.FieldsCoverOnce.{covered₅, covered₇alone, covered₇}
+use Rattle.packing.specs.Means.{Means₅, Means₇}
+use Rattle.packing.proofs.MeansByName.{means₅, means₇}
+use Rattle.packing.proofs.UnpackedExactlyWhen.{unpacked-exactly-when, written, spare-ignored, width-0-zeros}
 use Rattle.field.specs.Field.{FieldOutcome, readField, onward, packedOutcome, told as toldField, fieldOutcome}
 use Rattle.field.specs.Accepted.{FollowsField, AcceptedField}
 use Rattle.field.specs.declared.Answer.{Answer as FieldAnswer}
@@ -128,19 +131,24 @@ section-5-accepted s a e = by-outcome e (accepted-exactly-when₅ s)
 pub section-7-accepted : (n bits : ℕ) (s : List ℕ) (a : DataAnswer) → seven.told₇ a ≡ seven.outcome₇ n bits s → Accepted (seven.told₇ a) ↔ Follows₇ n bits s
 section-7-accepted n bits s a e = by-outcome e (accepted-exactly-when₇ n bits s)
 
+-- a section 7 alone, of which no section 5 says N and the bits
+pub section-7-alone-accepted : (s : List ℕ) → Accepted (seven.outcome₇alone s) ↔ Follows₇alone s
+section-7-alone-accepted s = by-outcome refl (accepted-exactly-when₇alone s)
+
 pub field-accepted : (s1 s3 s4 s5 s7 : List ℕ) (a : FieldAnswer) → toldField a ≡ fieldOutcome s1 s3 s4 s5 s7 → AcceptedField (toldField a) ↔ FollowsField s1 s3 s4 s5 s7
 field-accepted s1 s3 s4 s5 s7 a e =
     let w = exactly-field s1 s3 s4 s5 s7 in
     ((λ x. w .0 (subst AcceptedField e x)), (λ f. subst AcceptedField (sym e) (w .1 f)))
 
 -- ---- "its length is the template's octet count for its own repeat counts": `whole` of each `Follows…`. "and its fields cover every octet
--- once": the octets of the fields, strung together, are the section
+-- once": the fields stand at the octets that document 01 numbers (`octets…`, `specs/Accepted.antt` of each crate, and of
+-- section 4 `product/specs/Table.antt`), these are 1 to the length, each once, and the octets of the fields, strung together, are the section
 
-pub section-1-covered : (template : Template₁) (s : List ℕ) → Follows₁ template s → octetsOf (after 0 (one.fields₁ template)) s ≡ s
+pub section-1-covered : (template : Template₁) (s : List ℕ) → Follows₁ template s → Covered (after 0 (one.fields₁ template)) (octets₁ template) s
 section-1-covered template s f = covered₁ template s (f .whole)
 
-pub section-3-covered : (template : Template₃) (s : List ℕ) → Follows₃ template s → octetsOf (after 0 (fields₃ template (listOctets s))) s ≡ s
-section-3-covered template s f = covered₃ template (listWidth s) (listCount s) s (all-fits template s (f .list) .whole)
+pub section-3-covered : (template : Template₃) (s : List ℕ) → Follows₃ template s → Covered (after 0 (fields₃ template (listOctets s))) (octets₃ template (listOctets s)) s
+section-3-covered template s f = covered₃ template (listOctets s) s (all-fits template s (f .list) .whole)
 
 -- by the template's number, with the section's own n, Nc and NV
 pub section-4-covered : (row : TemplateRow) (s : List ℕ) → Follows₄ row s → Covered (after 0 (fieldsIn (row .part) (isTimed row) s)) (octets₄ (row .number) (countIn (row .ranges) s) (countIn (row .members) s) (beAt s 6 2)) s
@@ -151,6 +159,10 @@ section-5-covered s f = covered₅ s (f .whole)
 
 pub section-7-covered : (n bits : ℕ) (s : List ℕ) → Follows₇ n bits s → Covered (after 0 (seven.fields₇ n bits)) (octets₇ n bits) s
 section-7-covered n bits s f = covered₇ n bits s (f .whole)
+
+-- alone, five octets and the rest
+pub section-7-alone-covered : (s : List ℕ) → Follows₇alone s → Covered (after 0 (seven.fields₇alone (length s - 5))) (octets₇alone (length s - 5)) s
+section-7-alone-covered s f = covered₇alone (length s - 5) s (omega (arith, f .long))
 
 -- ---- "What is read out is what those octets mean": a record that is read has the values of the fields, and section 1's the real year beside them
 
@@ -166,23 +178,38 @@ pub section-4-means : (s : List ℕ) (x : Product) → four.told (Read₄ x) ≡
 unfolding four.told
 section-4-means s x e = follows₄ s (valuesIn₄ x) (sym e)
 
--- by name and octet
+pub section-5-means : (s : List ℕ) (x : Packing) → five.told₅ (Read₅ x) ≡ five.outcome₅ s → Follows₅ s × (five.valuesIn₅ x ≡ valuesOf (after 0 five.fields₅) s)
+unfolding five.told₅
+section-5-means s x e = accepted-follows₅ s (five.valuesIn₅ x) (sym e)
+
+pub section-7-means : (n bits : ℕ) (s : List ℕ) (x : DataSection) → seven.told₇ (Read₇ x) ≡ seven.outcome₇ n bits s → Follows₇ n bits s × (seven.valuesIn₇ x ≡ valuesOf (after 0 (seven.fields₇ n bits)) s)
+unfolding seven.told₇
+section-7-means n bits s x e = accepted-follows₇ n bits s (seven.valuesIn₇ x) (sym e)
+
+-- alone it says its length and its number
+pub section-7-alone-means : (s : List ℕ) (vs : List Value) → seven.outcome₇alone s ≡ read vs → Follows₇alone s × (vs ≡ seven.values₇ s) × (vs ≡ valuesOf (after 0 (seven.fields₇alone (length s - 5))) s)
+section-7-alone-means s vs e =
+    let a = accepted-follows₇alone s vs e in
+    (a .0, a .1, a .1 ∙ sym (fields-say₇ (length s - 5) s))
+
+-- ---- by name and octet: each field of the record is the meaning of its octets (`Means…`, `specs/Means.antt` of each crate)
+
+pub section-1-by-name : (s : List ℕ) (x : Identification) → one.told (Read₁ x) ≡ one.outcome₁ s → (template : Template₁) × Follows₁ template s × Means₁ template x s
+section-1-by-name s x e = let a = section-1-means s x e in (a .0, a .1, means₁ (a .0) s x (a .2))
+
+pub section-3-by-name : (s : List ℕ) (x : Grid) → three.told (Read₃ x) ≡ three.outcome₃ s → (template : Template₃) × Follows₃ template s × Means₃ template x s
+section-3-by-name s x e = let a = section-3-means s x e in (a .0, a .1, means₃ (a .0) s x (a .2))
+
 pub section-4-by-name : (s : List ℕ) (x : Product) → four.told (Read₄ x) ≡ four.outcome₄ s → (row : TemplateRow) × Follows₄ row s × Means₄ row x s
 section-4-by-name s x e =
     let f = section-4-means s x e in
     (f .0, f .1, means₄ (f .0) (f .1 .listed) s x (f .2))
 
-pub section-5-means : (s : List ℕ) (x : Packing) → five.told₅ (Read₅ x) ≡ five.outcome₅ s → Follows₅ s × (five.valuesIn₅ x ≡ valuesOf (after 0 five.fields₅) s)
-unfolding five.told₅
-section-5-means s x e = accepted-follows₅ s (five.valuesIn₅ x) (sym e)
-
--- by name and octet
 pub section-5-by-name : (s : List ℕ) (x : Packing) → five.told₅ (Read₅ x) ≡ five.outcome₅ s → Means₅ x s
 section-5-by-name s x e = means₅ s x (section-5-means s x e .1)
 
-pub section-7-means : (n bits : ℕ) (s : List ℕ) (x : DataSection) → seven.told₇ (Read₇ x) ≡ seven.outcome₇ n bits s → Follows₇ n bits s × (seven.valuesIn₇ x ≡ valuesOf (after 0 (seven.fields₇ n bits)) s)
-unfolding seven.told₇
-section-7-means n bits s x e = accepted-follows₇ n bits s (seven.valuesIn₇ x) (sym e)
+pub section-7-by-name : (n bits : ℕ) (s : List ℕ) (x : DataSection) → seven.told₇ (Read₇ x) ≡ seven.outcome₇ n bits s → Means₇ x s
+section-7-by-name n bits s x e = means₇ n bits s x (section-7-means n bits s x e .1)
 
 -- a field that is read is its sections, each read as it is alone, and section 7 by section 5's N and bits
 pub field-means : (s1 s3 s4 s5 s7 : List ℕ) (x : WholeField) → toldField (ReadField x) ≡ fieldOutcome s1 s3 s4 s5 s7
@@ -262,31 +289,21 @@ pub unpacked-means : (bits n k : ℕ) (xs : List ℕ) → k < n → getD (unpack
 unfolding unpacked packedAt
 unpacked-means bits n k xs l = each-filled 0 (packedAt bits xs) n k l
 
--- a row is written exactly when sections 5 and 7 are accepted and it has N places, and then it holds the N numbers, and N is answered
-and-read : (a b : Outcome) (vs : List Value) → andThen a b ≡ read vs → ((us : List Value) × (a ≡ read us)) × (b ≡ read vs)
-unfolding andThen
-and-read (refused number section place) b vs e = let z : _≡_ {A = ℕ} 0 1 = cc in absurd (omega arith)
-and-read (read us) b vs e = ((us, refl), e)
+-- a row is written exactly when sections 5 and 7 follow and it has N places
+pub unpacking-accepted : (s5 s7 row later : List ℕ) (a : Unpacked) → Unpacks s5 s7 row a later
+    → Accepted (toldUnpacked a) ↔ (Follows₅ s5 × Follows₇ (five.valuesAt s5) (five.bitsAt s5) s7 × (length row ≡ five.valuesAt s5))
+unpacking-accepted s5 s7 row later a u = by-outcome (u .answers) (unpacked-exactly-when s5 s7 row)
 
+-- then it holds the N numbers, and N is answered
 pub unpacking-means : (s5 s7 row later : List ℕ) (n : ℕ) → Unpacks s5 s7 row (Written n) later
     → (n ≡ five.valuesAt s5) × Follows₅ s5 × Follows₇ (five.valuesAt s5) (five.bitsAt s5) s7 × (length row ≡ five.valuesAt s5) × (later ≡ unpacked (five.bitsAt s5) (five.valuesAt s5) (drop 5 s7))
-unfolding unpackOutcome rowAfter toldUnpacked NoneHold
-unpacking-means s5 s7 row later n u =
-    let whole = sym (u .answers) in
-    let a = and-read (five.outcome₅ s5) _ _ whole in
-    let b = and-read (seven.outcome₇ (five.valuesAt s5) (five.bitsAt s5) s7) _ _ (a .1) in
-    let c = read-none 0 _ (read (plain (five.valuesAt s5) ∷ [])) _ (b .1) in
-    let same = c .1 in (
-      cc,
-      accepted-exactly-when₅ s5 .0 (a .0),
-      accepted-exactly-when₇ (five.valuesAt s5) (five.bitsAt s5) s7 .0 (b .0),
-      test-same _ _ (c .0 .0),
-      u .leaves ∙ ap (λ (o : Outcome). rowBy o row (unpacked (five.bitsAt s5) (five.valuesAt s5) (drop 5 s7))) whole,
-    )
+unpacking-means s5 s7 row later n u = written s5 s7 row n later u
 
-pub unpacking-accepted : (s5 s7 row : List ℕ) → Follows₅ s5 → Follows₇ (five.valuesAt s5) (five.bitsAt s5) s7 → length row ≡ five.valuesAt s5 → Accepted (unpackOutcome s5 s7 row)
-unfolding unpackOutcome andThen firstOf
-unpacking-accepted s5 s7 row f g l =
-    let a = accepted-exactly-when₅ s5 .1 f in
-    let b = accepted-exactly-when₇ (five.valuesAt s5) (five.bitsAt s5) s7 .1 g in
-    rw (a .1, b .1, same-test _ _ l) tt
+-- spare bits are not looked at: two sections 7 whose first N x bits bits are the same, from octet 6 on, leave the same row
+pub spare-bits : (s5 s7 s7′ row row′ later later′ : List ℕ) (n n′ : ℕ) → Unpacks s5 s7 row (Written n) later → Unpacks s5 s7′ row′ (Written n′) later′
+    → ((k : ℕ) → k < five.valuesAt s5 * five.bitsAt s5 → bitAt (drop 5 s7) k ≡ bitAt (drop 5 s7′) k) → later ≡ later′
+spare-bits = spare-ignored
+
+-- width 0 writes zeros
+pub width-0 : (s5 s7 row later : List ℕ) (n : ℕ) → Unpacks s5 s7 row (Written n) later → five.bitsAt s5 ≡ 0 → later ≡ replicate (five.valuesAt s5) 0
+width-0 = width-0-zeros

@@ -20,14 +20,14 @@ use Rattle.grid.specs.declared.Answer.the-variants.{Read, Refused}
 
 -- ---- blocks of values
 
-toEarthSize : List Value → EarthSize
+unfoldable pub toEarthSize : List Value → EarthSize
 toEarthSize vs = record { factor = to32 (getD vs 0 none); value = to32 (getD vs 1 none) }
 
-toPole : List Value → Pole
+unfoldable pub toPole : List Value → Pole
 toPole vs = record { latitude = wholeIn (getD vs 0 none); longitude = wholeIn (getD vs 1 none); «angle_or_factor» = naturalIn (getD vs 2 none) }
 
 -- the first value tells which of them follow
-toPoles : List Value → Poles
+unfoldable pub toPoles : List Value → Poles
 toPoles vs = by-tag (naturalIn (getD vs 0 none))
   where
     by-tag : ℕ → Poles
@@ -43,9 +43,7 @@ poles-back (isRotated x) = refl
 poles-back (isStretched x) = refl
 poles-back (isBoth x y) = refl
 
--- ---- the answer that an outcome is of
-
-toCommon : List Value → Common
+unfoldable pub toCommon : List Value → Common
 toCommon vs = record {
   earth =
       record {
@@ -68,11 +66,10 @@ toCommon vs = record {
   «scanning_mode» = naturalIn (getD vs 18 none);
 }
 
-untold : Outcome → Answer
-untold (refused n s p) = Refused (refusal n s p)
-untold (read vs) =
-    Read
-    (record {
+-- the record that says these values
+unfoldable pub toGrid : List Value → Grid
+toGrid vs =
+    record {
       length = naturalIn (getD vs 0 none);
       number = naturalIn (getD vs 1 none);
       source = naturalIn (getD vs 2 none);
@@ -82,17 +79,26 @@ untold (read vs) =
       template = naturalIn (getD vs 6 none);
       common = toCommon (drop 7 vs);
       poles = toPoles (drop 26 vs);
-    })
+    }
 
-back : (a : Answer) → untold (told a) ≡ a
-unfolding untold told valuesIn commonIn earthIn earthSizeIn toEarthSize toCommon
-back (Refused x) = refl
-back (Read x) = simp (back32, poles-back)
-
-pub determined : (s : List ℕ) (a b : Answer) → told a ≡ outcome₃ s → told b ≡ outcome₃ s → a ≡ b
-determined s a b p q = told-back told untold back a b (p ∙ sym q)
+pub grid-back : (x : Grid) → toGrid (valuesIn x) ≡ x
+unfolding toGrid valuesIn commonIn earthIn earthSizeIn toEarthSize toCommon
+grid-back x = simp (back32, poles-back)
 
 -- so two records that say the same are one record
 pub same-record : (x y : Grid) → valuesIn x ≡ valuesIn y → x ≡ y
-unfolding told
-same-record x y e = let r : Read x ≡ Read y = told-back told untold back (Read x) (Read y) (ap read e) in cc
+same-record = told-back valuesIn toGrid grid-back
+
+-- ---- the answer that an outcome is of
+
+untold : Outcome → Answer
+untold (refused n s p) = Refused (refusal n s p)
+untold (read vs) = Read (toGrid vs)
+
+back : (a : Answer) → untold (told a) ≡ a
+unfolding untold told
+back (Refused x) = refl
+back (Read x) = ap Read (grid-back x)
+
+pub determined : (s : List ℕ) (a b : Answer) → told a ≡ outcome₃ s → told b ≡ outcome₃ s → a ≡ b
+determined s a b p q = told-back told untold back a b (p ∙ sym q)

@@ -7,3 +7,4 @@ pub mod FieldsByBlock
 pub mod Widths
 pub mod Entries
 pub mod RefusalNumbers
+pub mod MeansByName

@@ -2,14 +2,58 @@
 -- Assumes nothing.
 use Prim.Native.Nat.{ℕ, _+_, _*_, _^_, _≤_, _<_}
 use mathlib.Core.Path.{_≡_}
-use mathlib.Core.List.{List}
+use mathlib.Core.List.{List, [], _∷_, _++_}
 use mathlib.Core.Logic.{_⊎_}
 use lib.ListN.{length}
 use Rattle.octets.specs.Octets.{beAt}
+use Rattle.layout.specs.Fields.{Run, run}
 use Rattle.grid.specs.Templates.{baseEnd}
 use Rattle.grid.specs.Points.{sumOf}
 use Rattle.grid.specs.declared.templates.Template.{Template}
 use Rattle.grid.specs.declared.templates.Template.the-variants.{LatLon, Rotated, Stretched, StretchedAndRotated}
+
+-- the octets of each field by their numbers, in every section 3: 1-4, 5, 6, 7-10, 11, 12, 13-14; shape of the earth and its sizes 15, 16,
+-- 17-20, 21, 22-25, 26, 27-30; Ni, Nj, basic angle, subdivisions 31-34, 35-38, 39-42, 43-46; and 47-50, 51-54, 55, 56-59, 60-63, 64-67, 68-71, 72
+abbrev pub octetsTo72 : List Run
+octetsTo72 =
+    run 1 4
+    ∷ run 5 1
+    ∷ run 6 1
+    ∷ run 7 4
+    ∷ run 11 1
+    ∷ run 12 1
+    ∷ run 13 2
+    ∷ run 15 1
+    ∷ run 16 1
+    ∷ run 17 4
+    ∷ run 21 1
+    ∷ run 22 4
+    ∷ run 26 1
+    ∷ run 27 4
+    ∷ run 31 4
+    ∷ run 35 4
+    ∷ run 39 4
+    ∷ run 43 4
+    ∷ run 47 4
+    ∷ run 51 4
+    ∷ run 55 1
+    ∷ run 56 4
+    ∷ run 60 4
+    ∷ run 64 4
+    ∷ run 68 4
+    ∷ run 72 1
+    ∷ []
+
+-- behind them the poles that the template has, 73-76, 77-80, 81-84 and 85-88, 89-92, 93-96, and then a list of so many octets
+abbrev pub octetsFrom73 : Template → ℕ → List Run
+octetsFrom73 LatLon list = run 73 list ∷ []
+octetsFrom73 Rotated list = run 73 4 ∷ run 77 4 ∷ run 81 4 ∷ run 85 list ∷ []
+octetsFrom73 Stretched list = run 73 4 ∷ run 77 4 ∷ run 81 4 ∷ run 85 list ∷ []
+octetsFrom73 StretchedAndRotated list =
+    run 73 4 ∷ run 77 4 ∷ run 81 4 ∷ run 85 4 ∷ run 89 4 ∷ run 93 4 ∷ run 97 list ∷ []
+
+abbrev pub octets₃ : Template → ℕ → List Run
+octets₃ template list = octetsTo72 ++ octetsFrom73 template list
 
 -- the number of a template, in octets 13-14
 abbrev pub numberOf : Template → ℕ

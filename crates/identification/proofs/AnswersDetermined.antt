@@ -22,46 +22,41 @@ use Rattle.identification.specs.declared.Answer.the-variants.{Read, Refu
 
 -- ---- fields that a template may lack
 
-toNumber : Value → TemplateNumber
+abbrev pub toNumber : Value → TemplateNumber
 toNumber none = noNumber
 toNumber missing = noNumber
 toNumber (is z) = isNumber (natAbs z)
 toNumber (which n) = noNumber
 
-toCalendar : Value → CalendarCode
+abbrev pub toCalendar : Value → CalendarCode
 toCalendar none = noCalendar
 toCalendar missing = noCalendar
 toCalendar (is z) = isCalendar (natAbs z)
 toCalendar (which n) = noCalendar
 
-toOffset : Value → YearOffset
+abbrev pub toOffset : Value → YearOffset
 toOffset none = noOffset
 toOffset missing = noOffset
 toOffset (is z) = isOffset z
 toOffset (which n) = noOffset
 
 number-back : (x : TemplateNumber) → toNumber (numberIn x) ≡ x
-unfolding toNumber
 number-back noNumber = refl
 number-back (isNumber n) = refl
 
 calendar-back : (x : CalendarCode) → toCalendar (calendarIn x) ≡ x
-unfolding toCalendar
 calendar-back noCalendar = refl
 calendar-back (isCalendar n) = refl
 
 offset-back : (x : YearOffset) → toOffset (offsetIn x) ≡ x
-unfolding toOffset
 offset-back noOffset = refl
 offset-back (isOffset z) = refl
 
--- ---- the answer that an outcome is of
+-- ---- the record that says these values
 
-untold : Outcome → Answer
-untold (refused n s p) = Refused (refusal n s p)
-untold (read vs) =
-    Read
-    (record {
+unfoldable pub toIdentification : List Value → Identification
+toIdentification vs =
+    record {
       length = naturalIn (getD vs 0 none);
       number = naturalIn (getD vs 1 none);
       centre = naturalIn (getD vs 2 none);
@@ -77,14 +72,12 @@ untold (read vs) =
       calendar = toCalendar (getD vs 16 none);
       offset = toOffset (getD vs 17 none);
       «real_year» = wholeIn (getD vs 18 none);
-    })
+    }
 
-back : (a : Answer) → untold (told a) ≡ a
-unfolding untold told valuesIn timeIn
-back (Refused x) = refl
-back (Read x) =
-    λ i. Read
-    (record {
+pub identification-back : (x : Identification) → toIdentification (valuesIn x) ≡ x
+unfolding toIdentification valuesIn timeIn
+identification-back x =
+    λ i. record {
       length = x .length;
       number = x .number;
       centre = x .centre;
@@ -100,12 +93,22 @@ back (Read x) =
       calendar = calendar-back (x .calendar) i;
       offset = offset-back (x .offset) i;
       «real_year» = x .«real_year»;
-    })
-
-pub determined : (s : List ℕ) (a b : Answer) → told a ≡ outcome₁ s → told b ≡ outcome₁ s → a ≡ b
-determined s a b p q = told-back told untold back a b (p ∙ sym q)
+    }
 
 -- so two records that say the same are one record
 pub same-record : (x y : Identification) → valuesIn x ≡ valuesIn y → x ≡ y
-unfolding told
-same-record x y e = let r : Read x ≡ Read y = told-back told untold back (Read x) (Read y) (ap read e) in cc
+same-record = told-back valuesIn toIdentification identification-back
+
+-- ---- the answer that an outcome is of
+
+untold : Outcome → Answer
+untold (refused n s p) = Refused (refusal n s p)
+untold (read vs) = Read (toIdentification vs)
+
+back : (a : Answer) → untold (told a) ≡ a
+unfolding untold told
+back (Refused x) = refl
+back (Read x) = ap Read (identification-back x)
+
+pub determined : (s : List ℕ) (a b : Answer) → told a ≡ outcome₁ s → told b ≡ outcome₁ s → a ≡ b
+determined s a b p q = told-back told untold back a b (p ∙ sym q)

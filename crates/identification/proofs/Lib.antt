@@ -4,4 +4,5 @@ pub mod AnswersDetermined
 pub mod StarredYears
 pub mod Entries
 pub mod RefusalNumbers
+pub mod MeansByName
 pub mod OneTemplate

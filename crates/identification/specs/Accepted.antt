@@ -2,12 +2,44 @@
 -- Assumes nothing.
 use Prim.Native.Nat.{ℕ, _≤_}
 use mathlib.Core.Path.{_≡_}
-use mathlib.Core.List.{List}
+use mathlib.Core.List.{List, [], _∷_, _++_}
 use lib.ListN.{length}
 use Rattle.octets.specs.Octets.{beAt}
+use Rattle.layout.specs.Fields.{Run, run}
 use Rattle.identification.specs.Section1.{total}
 use Rattle.identification.specs.declared.Template.{Template}
 use Rattle.identification.specs.declared.Template.the-variants.{None as noTemplate, Calendar, Offset, CalendarAndOffset}
+
+-- the octets of each field by their numbers, in every section 1: 1-4, 5, 6-7, 8-9, 10, 11, 12, 13-14, 15, 16, 17, 18, 19, 20, 21
+abbrev pub octetsTo21 : List Run
+octetsTo21 =
+    run 1 4
+    ∷ run 5 1
+    ∷ run 6 2
+    ∷ run 8 2
+    ∷ run 10 1
+    ∷ run 11 1
+    ∷ run 12 1
+    ∷ run 13 2
+    ∷ run 15 1
+    ∷ run 16 1
+    ∷ run 17 1
+    ∷ run 18 1
+    ∷ run 19 1
+    ∷ run 20 1
+    ∷ run 21 1
+    ∷ []
+
+-- and behind them those of the template: its number at 22-23, and the calendar at 24, the offset at 24-25, or the calendar at 24 and the
+-- offset at 25-26
+abbrev pub octetsFrom22 : Template → List Run
+octetsFrom22 noTemplate = []
+octetsFrom22 Calendar = run 22 2 ∷ run 24 1 ∷ []
+octetsFrom22 Offset = run 22 2 ∷ run 24 2 ∷ []
+octetsFrom22 CalendarAndOffset = run 22 2 ∷ run 24 1 ∷ run 25 2 ∷ []
+
+abbrev pub octets₁ : Template → List Run
+octets₁ template = octetsTo21 ++ octetsFrom22 template
 
 -- octets 22-23 name the template
 abbrev pub Names : Template → List ℕ → Type 0

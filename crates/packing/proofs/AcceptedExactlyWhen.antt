@@ -14,8 +14,8 @@ use Rattle.layout.proofs.Blocks.{bad-none, none-bad}
 use Rattle.layout.proofs.Outcomes.{Headed, Fits, NoneHold, read-none, none-last, head-read, head-last, opening-read, opening-last, template-read, template-last}
 use Rattle.layout.proofs.Ranges.{between-in, in-between, test-same, same-test}
 use Rattle.packing.specs.Section5.{fields₅, asSimple, outcome₅}
-use Rattle.packing.specs.Section7.{fields₇, reasons₇, outcome₇}
-use Rattle.packing.specs.Accepted.{Follows₅, Follows₇}
+use Rattle.packing.specs.Section7.{fields₇alone, values₇, outcome₇alone, fields₇, reasons₇, outcome₇}
+use Rattle.packing.specs.Accepted.{Follows₅, Follows₇alone, Follows₇}
 
 -- ---- section 5
 
@@ -54,7 +54,34 @@ accepted-exactly-when₅ s = (
   (λ f. (valuesOf (after 0 fields₅) s, follows-accepted₅ s f)),
 )
 
--- ---- section 7
+-- ---- section 7 alone: 1 to 4 are all that it can be refused with
+
+alone : (s : List ℕ) → Headed 7 s → Follows₇alone s
+alone s h = record { long = h .long; small = h .small; says-length = h .says-length; says-number = h .says-number }
+
+headed : (s : List ℕ) → Follows₇alone s → Headed 7 s
+headed s f = record { long = f .long; small = f .small; says-length = f .says-length; says-number = f .says-number }
+
+pub accepted-follows₇alone : (s : List ℕ) (vs : List Value) → outcome₇alone s ≡ read vs → Follows₇alone s × (vs ≡ values₇ s)
+unfolding outcome₇alone
+accepted-follows₇alone s vs e = let head = head-read 7 s (read (values₇ s)) vs e in (alone s (head .0), cc)
+
+pub follows-accepted₇alone : (s : List ℕ) → Follows₇alone s → outcome₇alone s ≡ read (values₇ s)
+unfolding outcome₇alone
+follows-accepted₇alone s f = head-last 7 s (read (values₇ s)) (headed s f)
+
+pub accepted-exactly-when₇alone : (s : List ℕ) → ((vs : List Value) × (outcome₇alone s ≡ read vs)) ↔ Follows₇alone s
+accepted-exactly-when₇alone s = (
+  (λ a. accepted-follows₇alone s (a .0) (a .1) .0),
+  (λ f. (values₇ s, follows-accepted₇alone s f)),
+)
+
+-- the length and the number are the values of its fields, however many octets follow them
+pub fields-say₇ : (rest : ℕ) (s : List ℕ) → valuesOf (after 0 (fields₇alone rest)) s ≡ values₇ s
+unfolding valuesOf placed fields₇alone
+fields-say₇ rest s = refl
+
+-- ---- section 7, for N values of some bits
 
 module _ (n bits : ℕ) (s : List ℕ) where
   pub accepted-follows₇ : (vs : List Value) → outcome₇ n bits s ≡ read vs → Follows₇ n bits s × (vs ≡ valuesOf (after 0 (fields₇ n bits)) s)
@@ -62,20 +89,15 @@ module _ (n bits : ℕ) (s : List ℕ) where
   accepted-follows₇ vs e =
       let head = head-read 7 s _ vs e in
       let seven = read-none 7 (reasons₇ n bits s) (read (valuesOf (after 0 (fields₇ n bits)) s)) vs (head .1) in (
-        record {
-          small = head .0 .small;
-          whole = test-same _ _ (seven .0 .0);
-          says-length = head .0 .says-length;
-          says-number = head .0 .says-number;
-        },
+        record { alone = alone s (head .0); whole = test-same _ _ (seven .0 .0) },
         cc,
       )
 
   pub follows-accepted₇ : Follows₇ n bits s → outcome₇ n bits s ≡ read (valuesOf (after 0 (fields₇ n bits)) s)
   unfolding outcome₇ NoneHold
   follows-accepted₇ f =
-      let headed : Headed 7 s = record { long = omega (arith, f .whole); small = f .small; says-length = f .says-length; says-number = f .says-number } in
-      head-last 7 s _ headed ∙ none-last 7 (reasons₇ n bits s) (read (valuesOf (after 0 (fields₇ n bits)) s)) (same-test _ _ (f .whole), tt)
+      head-last 7 s _ (headed s (f .alone))
+      ∙ none-last 7 (reasons₇ n bits s) (read (valuesOf (after 0 (fields₇ n bits)) s)) (same-test _ _ (f .whole), tt)
 
   pub accepted-exactly-when₇ : ((vs : List Value) × (outcome₇ n bits s ≡ read vs)) ↔ Follows₇ n bits s
   accepted-exactly-when₇ = (

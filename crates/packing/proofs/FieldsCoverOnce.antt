@@ -1,4 +1,5 @@
--- The fields of sections 5 and 7 stand where document 01 has them and cover every octet once, whatever N and the bits are.
+-- The fields of sections 5 and 7 stand where document 01 has them and cover every octet once, whatever N and the bits are, and however long
+-- a section 7 alone is.
 -- Assumes nothing.
 use Prim.Native.Nat.{ℕ, _+_}
 use native.Mathlib.Omega.{arith}
@@ -8,24 +9,27 @@ use lib.ListN.{length}
 use Rattle.layout.specs.Fields.{after, runs, placed, widthOf, Covered}
 use Rattle.layout.proofs.Blocks.{covered}
 use Rattle.packing.specs.Section5.{fields₅}
-use Rattle.packing.specs.Section7.{packedOctets, fields₇}
-use Rattle.packing.specs.Accepted.{octets₅, octets₇}
+use Rattle.packing.specs.Section7.{packedOctets, fields₇alone, fields₇}
+use Rattle.packing.specs.Accepted.{octets₅, octets₇alone, octets₇}
 
 at-5 : runs (after 0 fields₅) ≡ octets₅
 unfolding runs placed fields₅
 at-5 = refl
 
-at-7 : (n bits : ℕ) → runs (after 0 (fields₇ n bits)) ≡ octets₇ n bits
-unfolding runs placed fields₇
-at-7 n bits = refl
+at-7 : (rest : ℕ) → runs (after 0 (fields₇alone rest)) ≡ octets₇alone rest
+unfolding runs placed fields₇alone
+at-7 rest = refl
 
 pub covered₅ : (s : List ℕ) → length s ≡ 21 → Covered (after 0 fields₅) octets₅ s
 unfolding widthOf fields₅
 covered₅ s e = covered fields₅ octets₅ s at-5 e
 
-pub covered₇ : (n bits : ℕ) (s : List ℕ) → length s ≡ 5 + packedOctets n bits → Covered (after 0 (fields₇ n bits)) (octets₇ n bits) s
-unfolding widthOf fields₇
-covered₇ n bits s e = covered (fields₇ n bits) (octets₇ n bits) s (at-7 n bits) (e ∙ sym total-is)
+pub covered₇alone : (rest : ℕ) (s : List ℕ) → length s ≡ 5 + rest → Covered (after 0 (fields₇alone rest)) (octets₇alone rest) s
+unfolding widthOf fields₇alone
+covered₇alone rest s e = covered (fields₇alone rest) (octets₇alone rest) s (at-7 rest) (e ∙ sym total-is)
   where
-    total-is : widthOf (fields₇ n bits) ≡ 5 + packedOctets n bits
+    total-is : widthOf (fields₇alone rest) ≡ 5 + rest
     total-is = omega arith
+
+pub covered₇ : (n bits : ℕ) (s : List ℕ) → length s ≡ 5 + packedOctets n bits → Covered (after 0 (fields₇ n bits)) (octets₇ n bits) s
+covered₇ n bits s e = covered₇alone (packedOctets n bits) s e

@@ -8,3 +8,4 @@ pub mod Unpacks
 pub mod Entries
 pub mod RefusalNumbers
 pub mod MeansByName
+pub mod UnpackedExactlyWhen

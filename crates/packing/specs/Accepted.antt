@@ -12,9 +12,13 @@ use Rattle.packing.specs.Section7.{packedOctets}
 abbrev pub octets₅ : List Run
 octets₅ = run 1 4 ∷ run 5 1 ∷ run 6 4 ∷ run 10 2 ∷ run 12 4 ∷ run 16 2 ∷ run 18 2 ∷ run 20 1 ∷ run 21 1 ∷ []
 
+-- 1-4, 5, and so many from octet 6 on
+abbrev pub octets₇alone : ℕ → List Run
+octets₇alone rest = run 1 4 ∷ run 5 1 ∷ run 6 rest ∷ []
+
 -- 1-4, 5, and the packed values from octet 6 on
 abbrev pub octets₇ : ℕ → ℕ → List Run
-octets₇ n bits = run 1 4 ∷ run 5 1 ∷ run 6 (packedOctets n bits) ∷ []
+octets₇ n bits = octets₇alone (packedOctets n bits)
 
 pub record Follows₅ (s : List ℕ) : Type 0 where
   pub whole : length s ≡ 21
@@ -23,9 +27,14 @@ pub record Follows₅ (s : List ℕ) : Type 0 where
   pub template : beAt s 10 2 ≡ 0
   pub bits : beAt s 20 1 ≤ 32
 
--- for N values of `bits` bits
-pub record Follows₇ (n bits : ℕ) (s : List ℕ) : Type 0 where
+-- a section 7 alone, of which no section 5 says N and the bits
+pub record Follows₇alone (s : List ℕ) : Type 0 where
+  pub long : 5 ≤ length s
   pub small : length s ≤ 65536
-  pub whole : length s ≡ 5 + packedOctets n bits
   pub says-length : beAt s 1 4 ≡ length s
   pub says-number : beAt s 5 1 ≡ 7
+
+-- for N values of `bits` bits: it is as long as they need
+pub record Follows₇ (n bits : ℕ) (s : List ℕ) : Type 0 where
+  pub alone : Follows₇alone s
+  pub whole : length s ≡ 5 + packedOctets n bits

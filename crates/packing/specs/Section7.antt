@@ -1,10 +1,11 @@
--- Section 7, as document 01 has it, for N values of some bits each.
+-- Section 7, as document 01 has it: alone, and for N values of some bits each.
 -- Assumes nothing.
 use Prim.Native.Nat.{ℕ, _+_, _*_, _/_}
 use mathlib.Core.List.{List, [], _∷_}
 use mathlib.Core.Bool.{not}
 use lib.ListN.{length}
 use lib.Dec.{eqb}
+use Rattle.octets.specs.Octets.{beAt}
 use Rattle.layout.specs.Fields.{Value, plain, Field, raw, shown, after, valuesOf}
 use Rattle.layout.specs.Outcomes.{Outcome, read, refusedBy, Reason, reason, firstOf, headReasons, noRefusal}
 use Rattle.layout.specs.declared.Refusal.{Refusal}
@@ -16,9 +17,21 @@ use Rattle.packing.specs.declared.DataAnswer.the-variants.{Read, Refused
 abbrev pub packedOctets : ℕ → ℕ → ℕ
 packedOctets n bits = (n * bits + 7) / 8
 
--- length, number, the packed values
-unfoldable pub fields₇ : ℕ → ℕ → List Field
-fields₇ n bits = raw 4 ∷ raw 1 ∷ shown (packedOctets n bits) ∷ []
+-- length, number, and the rest as it is, so many octets
+unfoldable pub fields₇alone : ℕ → List Field
+fields₇alone rest = raw 4 ∷ raw 1 ∷ shown rest ∷ []
+
+-- the rest are the packed values
+abbrev pub fields₇ : ℕ → ℕ → List Field
+fields₇ n bits = fields₇alone (packedOctets n bits)
+
+-- what is read out: the length and the number
+abbrev pub values₇ : List ℕ → List Value
+values₇ s = plain (beAt s 1 4) ∷ plain (beAt s 5 1) ∷ []
+
+-- alone, without the N and the bits of a section 5, a section 7 knows 1 to 4 only
+unfoldable pub outcome₇alone : List ℕ → Outcome
+outcome₇alone s = firstOf 7 (headReasons 7 s) (read (values₇ s))
 
 abbrev pub reasons₇ : ℕ → ℕ → List ℕ → List Reason
 reasons₇ n bits s = reason 15 (not (eqb (length s) (5 + packedOctets n bits))) ∷ []

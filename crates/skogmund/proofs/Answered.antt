@@ -1,6 +1,6 @@
 -- What the number says that C is answered: which refusal it is, and when it is 0.
 -- Assumes nothing.
-use Prim.Native.Nat.{ℕ, _^_, _≤_, _<_}
+use Prim.Native.Nat.{ℕ, _+_, _^_, _≤_, _<_}
 use native.Mathlib.Omega.{arith}
 use mathlib.Core.Path.{_≡_, refl, ap, _∙_}
 use mathlib.Core.Logic.{_↔_}
@@ -10,14 +10,16 @@ use lib.Dec.{eqb, ltb, leb}
 use lib.IntN.{ℤ}
 use lib.ListN.{length}
 use borrow.Author.Tests.{le-ltb, ltb-false, lt-ltb, ltb-true, le-leb, leb-true, eq-eqb, eqb-true, eqb-false}
-use Rattle.layout.specs.Fields.{Value}
-use Rattle.layout.specs.Outcomes.{refused, read, refusal}
+use Rattle.layout.specs.Outcomes.{refused, refusal}
 use Rattle.layout.specs.declared.Refusal.{Refusal}
 use Rattle.layout.specs.Refusals.{Row, Listed}
 use Rattle.layout.proofs.Ranges.{both-hold}
 use Rattle.layout.proofs.Refusals.{positive, proper}
+use Rattle.packing.specs.Section5.{valuesAt, bitsAt}
+use Rattle.packing.specs.Section7.{packedOctets}
 use Rattle.packing.specs.Unpacking.{unpackOutcome}
 use Rattle.packing.specs.Refused.{unpackTable}
+use Rattle.packing.proofs.UnpackedExactlyWhen.{unpacked-exactly-when as unpacking}
 use Rattle.packing.proofs.RefusalNumbers.{unpack-refuses}
 use Rattle.shelf.specs.declared.Shelf.{Shelf}
 use Rattle.shelf.specs.Shelves.{slotAt, putOf}
@@ -31,6 +33,8 @@ use Rattle.queue.specs.Queues.{recordStep, recordsFiled, fromStart, queueRefusa
 use Rattle.report.specs.Texts.{listing}
 use Rattle.lent.specs.Lent.{Done, done, doneBoth, over, withCount, ifRoom}
 use Rattle.lent.proofs.Answers.{room-left, room-exactly as exactly}
+use Rattle.values.specs.Accepted.{FollowsNumbered}
+use Rattle.values.proofs.AcceptedExactlyWhen.{numbered-5, numbered-7}
 use Rattle.values.proofs.RecordRead.{accepting}
 use Rattle.skogmund.specs.Entries.{code, codeOf, coded, noRoom, rowUnpacked, listingTold}
 use Rattle.skogmund.specs.Parts.{partTold}
@@ -45,11 +49,17 @@ taken-apart n s p n′ s′ p′ a b c d e = (omega (arith, e), omega (arith, e)
 pub listed-code : (table : List Row) (x : Refusal) → positive table ≡ true → Listed table x → codeOf x ≡ 0 → ⊥
 listed-code table x p h e = proper table (refused (x .number) (x .section) (x .place)) p h .0 (omega (arith, e))
 
-pub unpacked-exactly-when : (five seven row : List ℕ) → (rowUnpacked five seven row .answer ≡ 0) ↔ ((vs : List Value) × (unpackOutcome five seven row ≡ read vs))
+-- ---- unpacking: sections 5 and 7 follow, section 7 has the length that N and the bits give, and the row has N places
+
+pub unpacked-exactly-when : (five seven row : List ℕ) → (rowUnpacked five seven row .answer ≡ 0) ↔ (FollowsNumbered 5 five × FollowsNumbered 7 seven × (length seven ≡ 5 + packedOctets (valuesAt five) (bitsAt five)) × (length row ≡ valuesAt five))
 unfolding rowUnpacked
 unpacked-exactly-when five seven row =
     let o = unpackOutcome five seven row in
-    ((λ e. accepting o (proper unpackTable o refl (unpack-refuses five seven row)) (omega (arith, e))), (λ t. ap coded (t .1)))
+    let exactly = unpacking five seven row in (
+      (λ e. let f = exactly .0 (accepting o (proper unpackTable o refl (unpack-refuses five seven row)) (omega (arith, e))) in
+          (numbered-5 five .1 (f .0), numbered-7 seven .1 (f .1 .alone), f .1 .whole, f .2)),
+      (λ f. ap coded (exactly .1 (numbered-5 five .0 (f .0), record { alone = numbered-7 seven .0 (f .1); whole = f .2 }, f .3) .1)),
+    )
 
 -- ---- it is 0 exactly where there is room
 

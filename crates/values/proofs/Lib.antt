@@ -1,4 +1,5 @@
 pub mod Words
 pub mod Templates
+pub mod AcceptedExactlyWhen
 pub mod RecordRead
 pub mod Entries

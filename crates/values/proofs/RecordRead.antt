@@ -2,21 +2,20 @@
 -- Assumes nothing.
 use Prim.Native.Nat.{ℕ, _≤_}
 use native.Mathlib.Omega.{arith}
-use mathlib.Core.Path.{_≡_, refl, subst⁻¹}
+use mathlib.Core.Path.{_≡_, refl}
 use mathlib.Core.Logic.{_⊎_, inl, inr}
-use mathlib.Core.Bool.{Bool, true, false, cond}
-use mathlib.Core.List.{List, [], _∷_}
+use mathlib.Core.Bool.{Bool, true, false}
+use mathlib.Core.List.{List}
 use lib.Dec.{eqb, leb}
 use lib.IntN.{ℤ}
 use lib.ListN.{length}
-use borrow.Author.Tests.{eq-eqb, ne-eqb, eqb-true, eqb-false, le-leb, leb-true}
-use Rattle.octets.specs.Octets.{beAt}
+use borrow.Author.Tests.{eq-eqb, le-leb, leb-true}
 use Rattle.lent.specs.Lent.{done, withCount, ifRoom, Untouched}
 use Rattle.lent.proofs.Answers.{room-leaves}
-use Rattle.layout.specs.Fields.{Value, plain}
+use Rattle.layout.specs.Fields.{Value}
 use Rattle.layout.specs.Outcomes.{Outcome, refused, read, noRefusal, refusal, refusalOf}
 use Rattle.layout.specs.declared.Refusal.{Refusal}
-use Rattle.layout.specs.Refusals.{Row, row, oneOf, numbersOf, lastPlace, Listed}
+use Rattle.layout.specs.Refusals.{Row, oneOf, numbersOf, lastPlace, Listed}
 use Rattle.layout.proofs.Outcomes.{either}
 use Rattle.layout.proofs.Refusals.{Refuses, refuses-wider, placeless, head-refuses, Proper, positive, proper}
 use Rattle.identification.specs.Section1.{outcome₁}
@@ -29,34 +28,19 @@ use Rattle.product.specs.Section4.{outcome₄}
 use Rattle.product.specs.Refused.{table₄}
 use Rattle.product.proofs.RefusalNumbers.{refuses₄}
 use Rattle.packing.specs.Section5.{outcome₅}
+use Rattle.packing.specs.Section7.{values₇, outcome₇alone}
 use Rattle.packing.specs.Refused.{table₅}
 use Rattle.packing.proofs.RefusalNumbers.{refuses₅}
 use Rattle.values.specs.Refused.{readTable}
-use Rattle.values.specs.Records.{numbersIn, outcome₇alone, sectionOutcome, intoRow, AcceptedWithRoom}
+use Rattle.values.specs.Records.{numbersIn, sectionOutcome, intoRow}
+use Rattle.values.specs.Accepted.{AcceptedWithRoom}
+use Rattle.values.proofs.AcceptedExactlyWhen.{each-section, accepted-follows}
 
 -- ---- a section's own refusals
 
--- by the number that is asked for: one of five, or another
-by-number : (P : ℕ → Outcome → Type 0) (n k : ℕ) (a b : Outcome) → P k a → ((n ≡ k → ⊥) → P n b) → P n (cond (eqb n k) a b)
-by-number P n k a b p q = by (eqb n k) refl
-  where
-    by : (t : Bool) → eqb n k ≡ t → P n (cond t a b)
-    by true e = subst⁻¹ (λ (m : ℕ). P m a) (eqb-true n k e) p
-    by false e = q (eqb-false n k e)
-
-each-section : (P : ℕ → Outcome → Type 0) (s : List ℕ) → P 1 (outcome₁ s) → P 3 (outcome₃ s) → P 4 (outcome₄ s) → P 5 (outcome₅ s) → P 7 (outcome₇alone s)
-    → ((n : ℕ) → readTable n ≡ (row n (4 ∷ []) ∷ []) → P n (refused 4 n 0)) → (n : ℕ) → P n (sectionOutcome n s)
-unfolding sectionOutcome
-each-section P s one three four five seven other n =
-    by-number P n 1 _ _ one
-    (λ a. by-number P n 3 _ _ three
-    (λ b. by-number P n 4 _ _ four
-    (λ c. by-number P n 5 _ _ five
-    (λ d. by-number P n 7 _ _ seven (λ e. other n (rw (ne-eqb _ _ a, ne-eqb _ _ b, ne-eqb _ _ c, ne-eqb _ _ d, ne-eqb _ _ e)))))))
-
 seven-refuses : (s : List ℕ) → Refuses (readTable 7) (outcome₇alone s)
 unfolding outcome₇alone
-seven-refuses s = head-refuses (readTable 7) 7 s (read (plain (beAt s 1 4) ∷ plain (beAt s 5 1) ∷ [])) refl (λ small. tt)
+seven-refuses s = head-refuses (readTable 7) 7 s (read (values₇ s)) refl (λ small. tt)
 
 -- each section's refusals are its own
 own : (P : ℕ → Outcome → Type 0) → ((n : ℕ) (o : Outcome) → Refuses (readTable n) o → oneOf (numbersOf (readTable n) 0) 18 ≡ true → P n o) → ((n : ℕ) → Listed (readTable n) (refusal 4 n 0) → P n (refused 4 n 0))
@@ -125,7 +109,9 @@ none-by (read vs) row p e = by (leb 64 (length row)) refl _ e
     by false h row′ e = absurd (omega (arith, e))
 
 pub none-refused : (section : ℕ) (s : List ℕ) (row : List ℤ) → intoRow (sectionOutcome section s) row .answer .number ≡ 0 → AcceptedWithRoom section s row
-none-refused section s row e = none-by (sectionOutcome section s) row (all-proper section s) e
+none-refused section s row e =
+    let a = none-by (sectionOutcome section s) row (all-proper section s) e in
+    (accepted-follows section s (a .0 .0) (a .0 .1) .0, a .1)
 
 -- the record of an accepted section stands in the row
 pub record-put : (o : Outcome) (row : List ℤ) (vs : List Value) → o ≡ read vs → 64 ≤ length row → intoRow o row ≡ done noRefusal (withCount (numbersIn vs) row)

@@ -8,10 +8,8 @@ use lib.Dec.{eqb}
 use lib.IntN.{ℤ}
 use lib.ListN.{length}
 use Rattle.octets.specs.Octets.{beAt}
-use Rattle.layout.specs.Fields.{Value, is, plain}
-use Rattle.layout.specs.Outcomes.{headReasons}
+use Rattle.layout.specs.Fields.{Value, is}
 use Rattle.layout.specs.Time.{time}
-use Rattle.layout.proofs.Outcomes.{read-none}
 use Rattle.text.specs.Text.{ascii}
 use Rattle.identification.specs.Section1.{fields₁, origin, statusAndType, values₁, realYearAt, outcome₁}
 use Rattle.identification.specs.Accepted.{Follows₁}
@@ -34,9 +32,10 @@ use Rattle.product.specs.declared.templates.Template.{Template as Template₄}
 use Rattle.product.specs.declared.templates.Template.the-variants.{NotListed, Listed}
 use Rattle.product.proofs.AcceptedExactlyWhen.{accepted-follows as follows₄, follows-listed}
 use Rattle.packing.specs.Section5.{fields₅, outcome₅}
-use Rattle.packing.proofs.AcceptedExactlyWhen.{accepted-follows₅}
+use Rattle.packing.specs.Section7.{outcome₇alone}
+use Rattle.packing.proofs.AcceptedExactlyWhen.{accepted-follows₅, accepted-follows₇alone}
 use Rattle.lent.specs.Lent.{withCount}
-use Rattle.values.specs.Records.{inRow, numbersIn, PutsRecord, outcome₇alone}
+use Rattle.values.specs.Records.{inRow, numbersIn, PutsRecord}
 use Rattle.values.specs.Letters.{kindOf, numbersBy}
 use Rattle.values.proofs.Words.{spelt, spelt-numbers}
 
@@ -158,11 +157,8 @@ unfolding spelt kindOf fields₅
 row₅ s row row′ e vs accepted = stands row vs e (ap numbersIn (accepted-follows₅ s vs accepted .1) ∙ spelt-numbers fields₅ (ascii "41424bb11") 0 1 s refl)
 
 pub row₇ : (s : List ℕ) (row row′ : List ℤ) → row′ ≡ withCount (numbersBy (ascii "41") 1 s) row → PutsRecord (outcome₇alone s) row row′
-unfolding outcome₇alone numbersIn numbersBy kindOf
-row₇ s row row′ e vs accepted =
-    let last = read-none 7 (headReasons 7 s) _ vs accepted .1 in
-    let same : vs ≡ plain (beAt s 1 4) ∷ plain (beAt s 5 1) ∷ [] = cc in
-    stands row vs e (ap numbersIn same)
+unfolding numbersIn numbersBy kindOf
+row₇ s row row′ e vs accepted = stands row vs e (ap numbersIn (accepted-follows₇alone s vs accepted .1))
 
 -- ---- every other number is the last template's
 

@@ -1,3 +1,4 @@
 pub mod Records
+pub mod Accepted
 pub mod Refused
 pub mod Letters

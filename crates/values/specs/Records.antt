@@ -1,21 +1,21 @@
 -- The record of a section as numbers: their count and they, in a lent row of 64-bit places.
 -- Assumes nothing.
-use Prim.Native.Nat.{ℕ, _≤_}
+use Prim.Native.Nat.{ℕ}
 use mathlib.Core.Path.{_≡_}
 use mathlib.Core.List.{List, [], _∷_, _++_}
 use mathlib.Core.Bool.{cond}
 use lib.Dec.{eqb, leb}
 use lib.IntN.{ℤ, negsuc}
 use lib.ListN.{length}
-use Rattle.octets.specs.Octets.{beAt}
 use Rattle.lent.specs.Lent.{Done, done, withCount, ifRoom}
-use Rattle.layout.specs.Fields.{Value, none, missing, is, which, plain}
-use Rattle.layout.specs.Outcomes.{Outcome, refused, read, firstOf, headReasons, refusal, noRefusal}
+use Rattle.layout.specs.Fields.{Value, none, missing, is, which}
+use Rattle.layout.specs.Outcomes.{Outcome, refused, read, refusal, noRefusal}
 use Rattle.layout.specs.declared.Refusal.{Refusal}
 use Rattle.identification.specs.Section1.{outcome₁}
 use Rattle.grid.specs.Section3.{outcome₃}
 use Rattle.product.specs.Section4.{outcome₄}
 use Rattle.packing.specs.Section5.{outcome₅}
+use Rattle.packing.specs.Section7.{outcome₇alone}
 
 -- INT64_MIN stands for missing
 abbrev pub missingNumber : ℤ
@@ -34,11 +34,7 @@ numbersIn (v ∷ vs) = inRow v ++ numbersIn vs
 
 -- ---- the sections
 
--- section 7 alone, without the N and the bits of a section 5, knows 1 to 4 only
-unfoldable pub outcome₇alone : List ℕ → Outcome
-outcome₇alone s = firstOf 7 (headReasons 7 s) (read (plain (beAt s 1 4) ∷ plain (beAt s 5 1) ∷ []))
-
--- any other section number is 4 at once
+-- section 7 alone, without the N and the bits of a section 5; any other section number is 4 at once
 unfoldable pub sectionOutcome : ℕ → List ℕ → Outcome
 sectionOutcome section s =
     cond (eqb section 1) (outcome₁ s)
@@ -54,12 +50,6 @@ sectionOutcome section s =
 unfoldable pub intoRow : Outcome → List ℤ → Done Refusal (List ℤ)
 intoRow (refused number section place) row = done (refusal number section place) row
 intoRow (read vs) row = ifRoom noRefusal (refusal 18 0 0) (leb 64 (length row)) (withCount (numbersIn vs) row) row
-
--- ---- for the demands: when a record is told
-
--- the section's values, and 64 places for them
-abbrev pub AcceptedWithRoom : ℕ → List ℕ → List ℤ → Type 0
-AcceptedWithRoom section s row = ((vs : List Value) × (sectionOutcome section s ≡ read vs)) × (64 ≤ length row)
 
 -- ---- for the contracts of private functions
 

@@ -3,7 +3,7 @@ use Rattle.octets.proofs.Laws.{product-below}
 use Rattle.layout.proofs.Outcomes.{head-first}
 use Rattle.layout.specs.Fields.{placed, valuesOf, plain}
 use Rattle.layout.specs.Outcomes.{firstOf, read}
-use Rattle.packing.specs.Section7.{outcome₇, told₇, fields₇, valuesIn₇}
+use Rattle.packing.specs.Section7.{outcome₇, told₇, fields₇alone, valuesIn₇}
 use Prim.Native.Nat.{_*_, _^_, _<_}
 use mathlib.Core.List.{_∷_, []}
 use native.Mathlib.Omega.{arith}
@@ -42,7 +42,7 @@ returns-2 c =
     ))
 
 returns-3 : tie.Need-returns-3
-unfolding outcome₇ told₇ firstOf placed valuesOf fields₇ valuesIn₇
+unfolding outcome₇ told₇ firstOf placed valuesOf fields₇alone valuesIn₇
 returns-3 c =
     let d = c .before .before in
     rw head-first

@@ -10,7 +10,8 @@ use native.Mathlib.Omega.{arith}
 use lib.Dec.{eqb}
 use lib.IntN.{ℤ}
 use Rattle.layout.specs.Outcomes.{refused}
-use Rattle.values.specs.Records.{sectionOutcome, outcome₇alone, PutsRecord}
+use Rattle.packing.specs.Section7.{outcome₇alone}
+use Rattle.values.specs.Records.{sectionOutcome, PutsRecord}
 use Rattle.values.proofs.Templates.{row₅, row₇}
 use Rattle.values.proofs.put_record.Statement.{statement}
 use Rattle.values.proofs.put_record.Tie as tie

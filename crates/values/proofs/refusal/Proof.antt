@@ -20,7 +20,8 @@ use Rattle.product.specs.declared.Answer.the-variants.{Read as Read₄, Refused
 use Rattle.packing.specs.Section5.{told₅, refusalIn₅}
 use Rattle.packing.specs.declared.Answer.{Answer as Answer₅}
 use Rattle.packing.specs.declared.Answer.the-variants.{Read as Read₅, Refused as Refused₅}
-use Rattle.values.specs.Records.{outcome₇alone, sectionOutcome}
+use Rattle.packing.specs.Section7.{outcome₇alone}
+use Rattle.values.specs.Records.{sectionOutcome}
 use Rattle.values.proofs.refusal.Statement.{statement}
 use Rattle.values.proofs.refusal.Tie as tie
 
