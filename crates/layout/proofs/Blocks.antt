@@ -72,16 +72,13 @@ cover-from end k (said v ∷ fs) last e = rw add-zero (cover-from end k fs last 
 cover-from end k (shown w ∷ fs) last e =
     (refl, rw add-assoc (cover-from end (k + w) fs last (omega arith)))
 
-pub covers : (fs : List Field) (s : List ℕ) → length s ≡ widthOf fs → octetsOf (after 0 fs) s ≡ s
-covers fs s e = octets-from 0 1 fs s ∙ ap (part s 1) (sym e) ∙ part-all s
-
 -- and those of a section as long as its fields are the whole section
 pub covered : (fs : List Field) (layout : List Run) (s : List ℕ) → runs (after 0 fs) ≡ layout → length s ≡ widthOf fs → Covered (after 0 fs) layout s
 covered fs layout s e l =
     record {
       stand = e;
       numbers = subst (λ (rs : List Run). Cover 1 rs (length s)) e (cover-from 0 1 fs (length s) (omega arith));
-      strung = covers fs s l;
+      strung = octets-from 0 1 fs s ∙ ap (part s 1) (sym l) ∙ part-all s;
     }
 
 -- ---- no field is out of its range

@@ -137,11 +137,6 @@ placed end k (f ∷ fs) = record { at = end + k; field = f } ∷ placed end (k +
 abbrev pub after : ℕ → List Field → List FieldAt
 after end fs = placed end 1 fs
 
--- the first octet of each that has octets
-unfoldable pub starts : List FieldAt → List ℕ
-starts [] = []
-starts (p ∷ ps) = cond (eqb (width (p .field)) 0) (starts ps) (p .at ∷ starts ps)
-
 -- ---- which octets they have
 
 -- octets that stand together: the number of the first, and how many
