@@ -1,6 +1,7 @@
--- Demand 2. The definitions in it, for each section: what it means to follow the template and keep the value rules (`Follows…`,
--- `specs/Accepted.antt` of its crate), the list of its fields (`fields…`), of which `layout/specs/Fields.antt` computes where each stands and
--- what it says, and what a program's answer says (`told`). A contract of a reader is `told a ≡ outcome… s` (`Entries.antt` of each), so a theorem
+-- Demand 2. The definitions in it, for each section: what it means to follow the template and keep the value rules (`Follows…`) and the octets of
+-- each field by their numbers (`octets…`, both `specs/Accepted.antt` of its crate, section 4's table `product/specs/Table.antt`), what each named field
+-- of the record means (`Means…`, `specs/Means.antt`), the list of its fields (`fields…`), of which `layout/specs/Fields.antt` computes where each
+-- stands and what it says, and what a program's answer says (`told`). A contract of a reader is `told a ≡ outcome… s` (`Entries.antt` of each), so a theorem
 -- with that premise is about every answer `a` that the contract allows.
 -- Assumes nothing.
 
@@ -225,6 +226,19 @@ field-means s1 s3 s4 s5 s7 x e =
     let same = f .2 in
     let g = read-none 5 _ (seven.outcome₇ (five.valuesAt s5) (five.bitsAt s5) s7) _ (f .1) in
     (a .1 ∙ ap read cc, b .1 ∙ ap read cc, c .1 ∙ ap read cc, d .1 ∙ ap read cc, (f .0, g .1))
+
+-- so each of its records is, by name and octet, what its section says
+pub field-by-name : (s1 s3 s4 s5 s7 : List ℕ) (x : WholeField) → toldField (ReadField x) ≡ fieldOutcome s1 s3 s4 s5 s7
+    → ((template : Template₁) × Follows₁ template s1 × Means₁ template (x .identification) s1) × ((template : Template₃) × Follows₃ template s3 × Means₃ template (x .grid) s3)
+    × ((row : TemplateRow) × Follows₄ row s4 × Means₄ row (x .product) s4) × Means₅ (x .packing) s5
+unfolding one.told three.told four.told five.told₅
+field-by-name s1 s3 s4 s5 s7 x e =
+    let f = field-means s1 s3 s4 s5 s7 x e in (
+      section-1-by-name s1 (x .identification) (sym (f .0)),
+      section-3-by-name s3 (x .grid) (sym (f .1)),
+      section-4-by-name s4 (x .product) (sym (f .2)),
+      section-5-by-name s5 (x .packing) (sym (f .3)),
+    )
 
 -- ---- a caller is shown those very octets of the section, and nothing of a refused one
 

@@ -35,8 +35,8 @@ put-said : (s : Shelf) (slot : ℕ) (c : Card) → length (s .slots) ≡ 64 → 
     Said s slot (accepted c) (putShelf s slot c) (keptIf less)
 put-said s slot c long h true e =
     let holds = put-raises s slot c long h e in
-    record { card = c; accepts = refl; heldLess = e; holds = holds; changed = λ same. less-apart slot-strict e (sym same ∙ holds); others = λ k d. put-other s slot k c d }
-put-said s slot c long h false e = record { card = c; accepts = refl; holdsNoLess = e; same = put-stays s slot c e }
+    record { card = c; accepts = refl; held-less = e; holds = holds; changed = λ same. less-apart slot-strict e (sym same ∙ holds); others = λ k d. put-other s slot k c d }
+put-said s slot c long h false e = record { card = c; accepts = refl; holds-no-less = e; same = put-stays s slot c e }
 
 pub said : (s : Shelf) (slot : ℕ) (f : Filing) → length (s .slots) ≡ 64 → SlotThere slot f → Said s slot f (filedBy s slot f .shelf) (filedBy s slot f .answer)
 unfolding filedBy

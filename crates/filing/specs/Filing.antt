@@ -115,7 +115,7 @@ filedOf shelf slot issue s1 s3 s4 s5 s7 = filedBy shelf slot (filingOf slot issu
 pub record SaysKept (before : Shelf) (slot : ℕ) (filing : Filing) (after : Shelf) : Type 0 where
   pub card : Card
   pub accepts : filing ≡ accepted card
-  pub heldLess : lessSlot (slotAt before slot) (holding card) ≡ true
+  pub held-less : lessSlot (slotAt before slot) (holding card) ≡ true
   pub holds : slotAt after slot ≡ holding card
   pub changed : slotAt after slot ≢ slotAt before slot
   pub others : (k : ℕ) → k ≢ slot → slotAt after k ≡ slotAt before k
@@ -124,7 +124,7 @@ pub record SaysKept (before : Shelf) (slot : ℕ) (filing : Filing) (after : She
 pub record SaysPassed (before : Shelf) (slot : ℕ) (filing : Filing) (after : Shelf) : Type 0 where
   pub card : Card
   pub accepts : filing ≡ accepted card
-  pub holdsNoLess : lessSlot (slotAt before slot) (holding card) ≡ false
+  pub holds-no-less : lessSlot (slotAt before slot) (holding card) ≡ false
   pub same : after ≡ before
 
 -- refused: the filing is, with this number, section and place; no slot changed
