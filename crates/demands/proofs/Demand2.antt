@@ -305,19 +305,19 @@ unpacked-means bits n k xs l = each-filled 0 (packedAt bits xs) n k l
 
 -- a row is written exactly when sections 5 and 7 follow and it has N places
 pub unpacking-accepted : (s5 s7 row later : List ℕ) (a : Unpacked) → Unpacks s5 s7 row a later
-    → Accepted (toldUnpacked a) ↔ (Follows₅ s5 × Follows₇ (five.valuesAt s5) (five.bitsAt s5) s7 × (length row ≡ five.valuesAt s5))
+    → Accepted (toldUnpacked a) ↔ (Follows₅ s5 × Follows₇ (beAt s5 6 4) (beAt s5 20 1) s7 × (length row ≡ beAt s5 6 4))
 unpacking-accepted s5 s7 row later a u = by-outcome (u .answers) (unpacked-exactly-when s5 s7 row)
 
 -- then it holds the N numbers, and N is answered
 pub unpacking-means : (s5 s7 row later : List ℕ) (n : ℕ) → Unpacks s5 s7 row (Written n) later
-    → (n ≡ five.valuesAt s5) × Follows₅ s5 × Follows₇ (five.valuesAt s5) (five.bitsAt s5) s7 × (length row ≡ five.valuesAt s5) × (later ≡ unpacked (five.bitsAt s5) (five.valuesAt s5) (drop 5 s7))
+    → (n ≡ beAt s5 6 4) × Follows₅ s5 × Follows₇ (beAt s5 6 4) (beAt s5 20 1) s7 × (length row ≡ beAt s5 6 4) × (later ≡ unpacked (beAt s5 20 1) (beAt s5 6 4) (drop 5 s7))
 unpacking-means s5 s7 row later n u = written s5 s7 row n later u
 
 -- spare bits are not looked at: two sections 7 whose first N x bits bits are the same, from octet 6 on, leave the same row
 pub spare-bits : (s5 s7 s7′ row row′ later later′ : List ℕ) (n n′ : ℕ) → Unpacks s5 s7 row (Written n) later → Unpacks s5 s7′ row′ (Written n′) later′
-    → ((k : ℕ) → k < five.valuesAt s5 * five.bitsAt s5 → bitAt (drop 5 s7) k ≡ bitAt (drop 5 s7′) k) → later ≡ later′
+    → ((k : ℕ) → k < beAt s5 6 4 * beAt s5 20 1 → bitAt (drop 5 s7) k ≡ bitAt (drop 5 s7′) k) → later ≡ later′
 spare-bits = spare-ignored
 
 -- width 0 writes zeros
-pub width-0 : (s5 s7 row later : List ℕ) (n : ℕ) → Unpacks s5 s7 row (Written n) later → five.bitsAt s5 ≡ 0 → later ≡ replicate (five.valuesAt s5) 0
+pub width-0 : (s5 s7 row later : List ℕ) (n : ℕ) → Unpacks s5 s7 row (Written n) later → beAt s5 20 1 ≡ 0 → later ≡ replicate (beAt s5 6 4) 0
 width-0 = width-0-zeros

@@ -9,7 +9,7 @@
 -- of shelves as octets, which are stored or sent between two calls
 pub use Rattle.demands.proofs.ShelvesAsOctets.{history-read-back, octets-greatest-card, zeroed-writes, none-held-leaves, any-octets-leave, octets-queue-is-joining, octets-queue-again, octets-join-commutes, octets-join-associates, octets-join-idempotent}
 -- of the entries for C, which leave the octets of a history's shelf
-pub use Rattle.demands.proofs.ShelvesForC.{c-empties, c-joins, c-files, c-files-queue, c-shows}
+pub use Rattle.demands.proofs.ShelvesForC.{c-empties, c-joins, c-files, c-files-queue, c-shows, c-field-told, c-queue-told}
 -- The rest are the theorems of this file.
 use Prim.Native.Nat.{ℕ, _<_, _≤_}
 use mathlib.Core.Path.{_≡_, refl, sym, ap, subst, subst⁻¹, _∙_}
@@ -52,7 +52,7 @@ use Rattle.filing.specs.declared.Filed.{Filed}
 use Rattle.cutting.specs.Cuts.{cutOf}
 use Rattle.cutting.specs.Sections.{stretch, Sized}
 use Rattle.queue.specs.Queues.{Sent, bodyFiling, recordFiling, recordFiled, recordStep, recordsFiled, fromStart, queueRefusal, refusedQueue, acceptedQueue, queueFiled}
-use Rattle.queue.specs.Spelled.{spelledAll, AllSpellable, backToBack, FiveSections}
+use Rattle.queue.specs.Spelled.{spelledAll, AllSpellable, FollowsQueue, backToBack, FiveSections}
 use Rattle.queue.specs.Counting.{Reports}
 use Rattle.queue.specs.Bodies.{bodyOf}
 use Rattle.queue.specs.declared.Body.{Body}
@@ -141,7 +141,7 @@ filing-answers s slot x = answered-exactly-when slot (x .issue) (x .s1) (x .s3) 
 
 -- a queue is accepted exactly when it has at most 65,536 octets and is written by records, and these are the ones that are filed; what it is cut
 -- into, written again, is the queue
-pub queue-accepted : (q : List ℕ) → AllOctets q → (queueRefusal q ≡ 0) ↔ ((length q ≤ 65536) × ((rs : List Sent) × AllSpellable rs × (q ≡ spelledAll rs)))
+pub queue-accepted : (q : List ℕ) → AllOctets q → (queueRefusal q ≡ 0) ↔ FollowsQueue q
 queue-accepted = accepted-exactly-when
 
 pub queue-cut : (rs : List Sent) → AllSpellable rs → cutOf recordStep (spelledAll rs) ≡ record { items = rs; whole = true }

@@ -24,7 +24,7 @@ use Rattle.filing.specs.declared.Issue.{Issue}
 use Rattle.filing.specs.declared.Issue.the-variants.{NotNamed, Named}
 use Rattle.queue.specs.Records.{bodied, recordOf}
 use Rattle.queue.specs.Queues.{Sent, recordIn, recordItem, recordStep, recordsFiled, fromStart, queueRefusal, acceptedQueue, queueFiled}
-use Rattle.queue.specs.Spelled.{storedOf, spelledRecord, spelledAll, Spellable, AllSpellable}
+use Rattle.queue.specs.Spelled.{storedOf, spelledRecord, spelledAll, Spellable, AllSpellable, FollowsQueue}
 use Rattle.queue.specs.declared.Head.{Head}
 use Rattle.queue.specs.declared.Record.the-variants.{Whole, Broken}
 use Rattle.queue.proofs.Cuts.{Stands, stands, by-record, records-advance, records-look-no-further}
@@ -170,18 +170,21 @@ all-spellable = each-item recordStep records-advance Spellable found-spellable
 
 -- ---- so a queue is accepted exactly when it is short enough and written by records
 
-pub accepted-exactly-when : (q : List ℕ) → AllOctets q → (queueRefusal q ≡ 0) ↔ ((length q ≤ 65536) × ((rs : List Sent) × AllSpellable rs × (q ≡ spelledAll rs)))
+pub accepted-exactly-when : (q : List ℕ) → AllOctets q → (queueRefusal q ≡ 0) ↔ FollowsQueue q
 unfolding queueRefusal
 accepted-exactly-when q o = (
   by (ltb 65536 (length q)) refl (cutOf recordStep q .whole) refl,
-  (λ h.
-      let cut : cutOf recordStep q .whole ≡ true = ap (λ (s : List ℕ). cutOf recordStep s .whole) (h .1 .2) ∙ ap (λ (c : Cut Sent). c .whole) (cut-spelled (h .1 .0) (h .1 .1)) in
-      rw (le-ltb 65536 (length q) (h .0), cut)),
+  (λ f.
+      let cut : cutOf recordStep q .whole ≡ true =
+      ap (λ (s : List ℕ). cutOf recordStep s .whole) (f .written) ∙ ap (λ (c : Cut Sent). c .whole) (cut-spelled (f .records) (f .spellable))
+      in
+      rw (le-ltb 65536 (length q) (f .small), cut)),
 )
   where
-    by : (t : Bool) → ltb 65536 (length q) ≡ t → (w : Bool) → cutOf recordStep q .whole ≡ w → _≡_ {A = ℕ} (cond t 2 (cond w 0 19)) 0 → (length q ≤ 65536) × ((rs : List Sent) × AllSpellable rs × (q ≡ spelledAll rs))
+    by : (t : Bool) → ltb 65536 (length q) ≡ t → (w : Bool) → cutOf recordStep q .whole ≡ w → _≡_ {A = ℕ} (cond t 2 (cond w 0 19)) 0 → FollowsQueue q
     by true t w f e = absurd (omega arith)
-    by false t true f e = (ltb-false _ _ t, (cutOf recordStep q .items, all-spellable q, sym (spelled-again q o f)))
+    by false t true f e =
+        record { small = ltb-false _ _ t; records = cutOf recordStep q .items; spellable = all-spellable q; written = sym (spelled-again q o f) }
     by false t false f e = absurd (omega arith)
 
 -- and the records that are then filed are these

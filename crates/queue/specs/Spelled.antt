@@ -32,6 +32,13 @@ pub record Spellable (r : Sent) : Type 0 where
 abbrev pub AllSpellable : List Sent → Type 0
 AllSpellable rs = (r : Sent) → List·Memᴰ r rs → Spellable r
 
+-- a queue that is accepted: it has at most 65,536 octets, and records write it
+pub record FollowsQueue (q : List ℕ) : Type 0 where
+  pub small : length q ≤ 65536
+  pub records : List Sent
+  pub spellable : AllSpellable records
+  pub written : q ≡ spelledAll records
+
 -- ---- a body
 
 -- five sections back to back

@@ -10,12 +10,12 @@ use lib.Dec.{eqb, ltb, leb}
 use lib.IntN.{ℤ}
 use lib.ListN.{length}
 use borrow.Author.Tests.{le-ltb, ltb-false, lt-ltb, ltb-true, le-leb, leb-true, eq-eqb, eqb-true, eqb-false}
+use Rattle.octets.specs.Octets.{AllOctets, beAt}
 use Rattle.layout.specs.Outcomes.{refused, refusal}
 use Rattle.layout.specs.declared.Refusal.{Refusal}
 use Rattle.layout.specs.Refusals.{Row, Listed}
 use Rattle.layout.proofs.Ranges.{both-hold}
 use Rattle.layout.proofs.Refusals.{positive, proper}
-use Rattle.packing.specs.Section5.{valuesAt, bitsAt}
 use Rattle.packing.specs.Section7.{packedOctets}
 use Rattle.packing.specs.Unpacking.{unpackOutcome}
 use Rattle.packing.specs.Refused.{unpackTable}
@@ -25,11 +25,15 @@ use Rattle.shelf.specs.declared.Shelf.{Shelf}
 use Rattle.shelf.specs.Shelves.{slotAt, putOf}
 use Rattle.shelf_octets.specs.ShelfOctets.{shelfIn, asOctets}
 use Rattle.filing.specs.Filing.{Filing, refusedFiling, accepted, filingOf, keptIf, filedBy, filedOf, issueFrom}
+use Rattle.filing.specs.declared.Filed.{Filed}
 use Rattle.filing.specs.Refused.{filingTable}
+use Rattle.filing.proofs.FiledExactlyWhen.{filed-exactly-when as exactly-filed}
 use Rattle.filing.proofs.RefusalNumbers.{filing-refuses}
 use Rattle.queue.specs.declared.QueueFiled.{QueueFiled}
 use Rattle.cutting.specs.Cuts.{cutOf}
 use Rattle.queue.specs.Queues.{recordStep, recordsFiled, fromStart, queueRefusal, refusedQueue, acceptedQueue, queueFiled}
+use Rattle.queue.specs.Spelled.{FollowsQueue}
+use Rattle.queue.proofs.Spelled.{accepted-exactly-when as exactly-queued}
 use Rattle.report.specs.Texts.{listing}
 use Rattle.lent.specs.Lent.{Done, done, doneBoth, over, withCount, ifRoom}
 use Rattle.lent.proofs.Answers.{room-left, room-exactly as exactly}
@@ -38,7 +42,7 @@ use Rattle.values.proofs.AcceptedExactlyWhen.{numbered-5, numbered-7}
 use Rattle.values.proofs.RecordRead.{accepting}
 use Rattle.skogmund.specs.Entries.{code, codeOf, coded, noRoom, rowUnpacked, listingTold}
 use Rattle.skogmund.specs.Parts.{partTold}
-use Rattle.skogmund.specs.Shelves.{isShelf, emptied, joined, keptIn, Room, fieldKept, filedField, Files, queueKept, filedQueue, slotNumbers, slotShown}
+use Rattle.skogmund.specs.Shelves.{isShelf, emptied, joined, keptIn, Room, fieldKept, filedField, Files, FieldTold, queueKept, filedQueue, QueueTold, slotNumbers, slotShown}
 
 -- ---- which refusal it is
 
@@ -51,7 +55,7 @@ listed-code table x p h e = proper table (refused (x .number) (x .section) (x .p
 
 -- ---- unpacking: sections 5 and 7 follow, section 7 has the length that N and the bits give, and the row has N places
 
-pub unpacked-exactly-when : (five seven row : List ℕ) → (rowUnpacked five seven row .answer ≡ 0) ↔ (FollowsNumbered 5 five × FollowsNumbered 7 seven × (length seven ≡ 5 + packedOctets (valuesAt five) (bitsAt five)) × (length row ≡ valuesAt five))
+pub unpacked-exactly-when : (five seven row : List ℕ) → (rowUnpacked five seven row .answer ≡ 0) ↔ (FollowsNumbered 5 five × FollowsNumbered 7 seven × (length seven ≡ 5 + packedOctets (beAt five 6 4) (beAt five 20 1)) × (length row ≡ beAt five 6 4))
 unfolding rowUnpacked
 unpacked-exactly-when five seven row =
     let o = unpackOutcome five seven row in
@@ -112,9 +116,9 @@ keep-exactly : (s places : List ℕ) (after : Shelf) (ns : List ℕ) → (keptIn
 unfolding keptIn
 keep-exactly s places after ns = room-exactly _ _ _ (both-exactly (shelf-exactly s) (many-exactly (length ns) places))
 
-keep-left : (s places : List ℕ) (after : Shelf) (ns : List ℕ) → keptIn s places after ns .answer ≡ 0 → keptIn s places after ns .lent .0 ≡ asOctets after
+keep-left : (s places : List ℕ) (after : Shelf) (ns : List ℕ) → keptIn s places after ns .answer ≡ 0 → keptIn s places after ns .lent ≡ (asOctets after, over places ns)
 unfolding keptIn
-keep-left s places after ns e = ap (λ (l : List ℕ × List ℕ). l .0) (room-left 0 noRoom no-room-refuses (isShelf s && leb (length ns) (length places)) (asOctets after, over places ns) (s, places) e .1)
+keep-left s places after ns e = room-left 0 noRoom no-room-refuses (isShelf s && leb (length ns) (length places)) (asOctets after, over places ns) (s, places) e .1
 
 module _ (s : List ℕ) (slot stored : ℕ) (s1 s3 s4 s5 s7 places : List ℕ) where
   abbrev made : Done ℕ (List ℕ × List ℕ)
@@ -134,26 +138,30 @@ module _ (s : List ℕ) (slot stored : ℕ) (s1 s3 s4 s5 s7 places : List ℕ) w
   kept-exactly true x = keep-exactly s places x (1 ∷ [])
   kept-exactly false x = keep-exactly s places x (0 ∷ [])
 
-  kept-left : (t : Bool) (x : Shelf) → fieldKept s places x (keptIf t) .answer ≡ 0 → fieldKept s places x (keptIf t) .lent .0 ≡ asOctets x
+  -- the shelf and what C is told of the answer
+  abbrev Left : Filed → Done ℕ (List ℕ × List ℕ) → Type 0
+  Left x d = (d .lent .0 ≡ asOctets (x .shelf)) × FieldTold (x .answer) places (d .lent .1)
+
+  kept-left : (t : Bool) (x : Shelf) → fieldKept s places x (keptIf t) .answer ≡ 0 → Left (record { shelf = x; answer = keptIf t }) (fieldKept s places x (keptIf t))
   unfolding fieldKept
-  kept-left true x e = keep-left s places x (1 ∷ []) e
-  kept-left false x e = keep-left s places x (0 ∷ []) e
+  kept-left true x e = let l = keep-left s places x (1 ∷ []) e in (ap (λ (l : List ℕ × List ℕ). l .0) l, ap (λ (l : List ℕ × List ℕ). l .1) l)
+  kept-left false x e = let l = keep-left s places x (0 ∷ []) e in (ap (λ (l : List ℕ × List ℕ). l .0) l, ap (λ (l : List ℕ × List ℕ). l .1) l)
 
   -- the shelf that filing makes of these octets is then the one that is left
-  pub field-left : made .answer ≡ 0 → Fits × (made .lent .0 ≡ asOctets (filedOf (shelfIn s) slot (issueFrom stored) s1 s3 s4 s5 s7 .shelf))
+  pub field-left : made .answer ≡ 0 → Fits × Left (filedOf (shelfIn s) slot (issueFrom stored) s1 s3 s4 s5 s7) made
   unfolding filedField fieldKept filedOf filedBy
   field-left e = by-number (ltb 4294967296 stored) refl e
     where
-      by-filing : stored ≤ 4294967296 → (f : Filing) → filing ≡ f → by f .answer ≡ 0 → Fits × (by f .lent .0 ≡ asOctets (filedBy (shelfIn s) slot f .shelf))
+      by-filing : stored ≤ 4294967296 → (f : Filing) → filing ≡ f → by f .answer ≡ 0 → Fits × Left (filedBy (shelfIn s) slot f) (by f)
       by-filing h (refusedFiling number section place) g e =
           let x = refusal number section place in
           absurd (listed-code filingTable x refl (filing-refuses (shelfIn s) slot (issueFrom stored) s1 s3 s4 s5 s7 x (ap (λ (f : Filing). filedBy (shelfIn s) slot f .answer) g)) e)
       by-filing h (accepted card) g e =
           let put = putOf (shelfIn s) slot card in
-          ((h, (card, g), kept-exactly (put .changed) (put .shelf) .0 e), kept-left (put .changed) (put .shelf) e)
+          ((h, exactly-filed slot (issueFrom stored) s1 s3 s4 s5 s7 .0 (card, g), kept-exactly (put .changed) (put .shelf) .0 e), kept-left (put .changed) (put .shelf) e)
 
       by-number : (t : Bool) → ltb 4294967296 stored ≡ t → cond t (doneBoth (code 19 0 0) s places) (by filing) .answer ≡ 0
-          → Fits × (cond t (doneBoth (code 19 0 0) s places) (by filing) .lent .0 ≡ asOctets (filedBy (shelfIn s) slot filing .shelf))
+          → Fits × Left (filedBy (shelfIn s) slot filing) (cond t (doneBoth (code 19 0 0) s places) (by filing))
       by-number true h e = absurd (omega (arith, e))
       by-number false h e = by-filing (ltb-false _ _ h) filing refl e
 
@@ -162,27 +170,34 @@ module _ (s : List ℕ) (slot stored : ℕ) (s1 s3 s4 s5 s7 places : List ℕ) w
   filed-exactly-when = (
     (λ e. field-left e .0),
     λ f. (
+        let card = exactly-filed slot (issueFrom stored) s1 s3 s4 s5 s7 .1 (f .1) in
         ap (λ (t : Bool). cond t (doneBoth (code 19 0 0) s places) (by filing) .answer) (le-ltb _ _ (f .0))
-        ∙ ap (λ (g : Filing). by g .answer) (f .1 .1)
-        ∙ kept-exactly (putOf (shelfIn s) slot (f .1 .0) .changed) (putOf (shelfIn s) slot (f .1 .0) .shelf) .1 (f .2)
+        ∙ ap (λ (g : Filing). by g .answer) (card .1)
+        ∙ kept-exactly (putOf (shelfIn s) slot (card .0) .changed) (putOf (shelfIn s) slot (card .0) .shelf) .1 (f .2)
         ),
   )
 
 abbrev queued : List ℕ → List ℕ → Bool → QueueFiled
 queued s q t = cond t (acceptedQueue (recordsFiled (fromStart (shelfIn s)) (cutOf recordStep q .items))) (refusedQueue (shelfIn s) (queueRefusal q))
 
-pub queue-left : (s q places : List ℕ) → filedQueue s q places .answer ≡ 0 → (queueRefusal q ≡ 0) × Room s places 3 × (filedQueue s q places .lent .0 ≡ asOctets (queueFiled (shelfIn s) q .shelf))
+-- the shelf and the counts that filing the queue makes
+abbrev QueueLeft : List ℕ → QueueFiled → Done ℕ (List ℕ × List ℕ) → Type 0
+QueueLeft places x d = (d .lent .0 ≡ asOctets (x .shelf)) × QueueTold (x .answer) places (d .lent .1)
+
+pub queue-left : (s q places : List ℕ) → filedQueue s q places .answer ≡ 0 → (queueRefusal q ≡ 0) × Room s places 3 × QueueLeft places (queueFiled (shelfIn s) q) (filedQueue s q places)
 unfolding filedQueue queueKept queueFiled
 queue-left s q places e = by (eqb (queueRefusal q) 0) refl e
   where
     by : (t : Bool) → eqb (queueRefusal q) 0 ≡ t → queueKept s places (queued s q t .shelf) (queued s q t .answer) .answer ≡ 0
-        → (queueRefusal q ≡ 0) × Room s places 3 × (queueKept s places (queued s q t .shelf) (queued s q t .answer) .lent .0 ≡ asOctets (queued s q t .shelf))
-    by true h e = (eqb-true _ _ h, keep-exactly s places _ _ .0 e, keep-left s places _ _ e)
+        → (queueRefusal q ≡ 0) × Room s places 3 × QueueLeft places (queued s q t) (queueKept s places (queued s q t .shelf) (queued s q t .answer))
+    by true h e =
+        let l = keep-left s places _ _ e in
+        (eqb-true _ _ h, keep-exactly s places _ _ .0 e, (ap (λ (l : List ℕ × List ℕ). l .0) l, ap (λ (l : List ℕ × List ℕ). l .1) l))
     by false h e = absurd (eqb-false (queueRefusal q) 0 h (omega (arith, e)))
 
-pub queue-exactly-when : (s q places : List ℕ) → (filedQueue s q places .answer ≡ 0) ↔ ((queueRefusal q ≡ 0) × Room s places 3)
+pub queue-exactly-when : (s q places : List ℕ) → AllOctets q → (filedQueue s q places .answer ≡ 0) ↔ (FollowsQueue q × Room s places 3)
 unfolding filedQueue queueKept queueFiled
-queue-exactly-when s q places = (
-  (λ e. let k = queue-left s q places e in (k .0, k .1)),
-  (λ f. ap (λ (t : Bool). queueKept s places (queued s q t .shelf) (queued s q t .answer) .answer) (eq-eqb _ _ (f .0)) ∙ keep-exactly s places _ _ .1 (f .1)),
+queue-exactly-when s q places o = (
+  (λ e. let k = queue-left s q places e in (exactly-queued q o .0 (k .0), k .1)),
+  (λ f. ap (λ (t : Bool). queueKept s places (queued s q t .shelf) (queued s q t .answer) .answer) (eq-eqb _ _ (exactly-queued q o .1 (f .0))) ∙ keep-exactly s places _ _ .1 (f .1)),
 )

@@ -16,7 +16,8 @@ use Rattle.shelf.specs.Shelves.{slotAt}
 use Rattle.shelf_octets.specs.ShelfOctets.{shelfIn, asOctets, joinOctets}
 use Rattle.filing.specs.declared.Answer.{Answer}
 use Rattle.filing.specs.declared.Answer.the-variants.{Kept, Passed, Refused as refusedField}
-use Rattle.filing.specs.Filing.{accepted, filingOf, filedOf, issueFrom}
+use Rattle.filing.specs.Filing.{filedOf, issueFrom}
+use Rattle.filing.specs.Accepted.{FollowsFiling}
 use Rattle.queue.specs.declared.QueueAnswer.{QueueAnswer}
 use Rattle.queue.specs.declared.QueueAnswer.the-variants.{Filed as filedAll, Refused as refusedAll}
 use Rattle.queue.specs.Queues.{queueFiled}
@@ -92,7 +93,17 @@ slotShown s slot values =
 abbrev pub Room : List ℕ → List ℕ → ℕ → Type 0
 Room s places n = (length s ≡ 2624) × (n ≤ length places)
 
--- an issue, a field that is accepted, and room
+-- an issue that can be stored, a field that can be filed to the slot, and room
 abbrev pub Files : List ℕ → ℕ → ℕ → List ℕ → List ℕ → List ℕ → List ℕ → List ℕ → List ℕ → Type 0
-Files s slot stored s1 s3 s4 s5 s7 places =
-    (stored ≤ 4294967296) × ((card : Card) × (filingOf slot (issueFrom stored) s1 s3 s4 s5 s7 ≡ accepted card)) × Room s places 1
+Files s slot stored s1 s3 s4 s5 s7 places = (stored ≤ 4294967296) × FollowsFiling slot s1 s3 s4 s5 s7 × Room s places 1
+
+-- what is then in the places: 1 for a field that is kept, and 0 for one that is passed
+abbrev pub FieldTold : Answer → List ℕ → List ℕ → Type 0
+FieldTold Kept places later = later ≡ over places (1 ∷ [])
+FieldTold Passed places later = later ≡ over places (0 ∷ [])
+FieldTold (refusedField x) places later = ⊥
+
+-- and of a queue how many records were kept, how many passed, how many refused
+abbrev pub QueueTold : QueueAnswer → List ℕ → List ℕ → Type 0
+QueueTold (filedAll n) places later = later ≡ over places (n .kept ∷ n .passed ∷ n .refused ∷ [])
+QueueTold (refusedAll x) places later = ⊥
