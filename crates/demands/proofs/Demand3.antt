@@ -44,10 +44,10 @@ use Rattle.shelf_octets.proofs.Laws.{tidy-in}
 use Rattle.filing.specs.Filing.{Filing, refusedFiling, accepted, issueOf, cardOf, cardAt, foreignCalendar, filingOf, filedBy, filedOf, Said}
 use Rattle.filing.specs.Accepted.{Gregorian, FollowsFiling, AcceptedFiling}
 use Rattle.filing.specs.declared.Issue.{Issue}
-use Rattle.filing.specs.declared.Issue.the-variants.{NotNamed}
+use Rattle.filing.specs.declared.Issue.the-variants.{NotNamed, Named}
 use Rattle.filing.proofs.CardOctets.{card-octets}
 use Rattle.filing.proofs.FiledExactlyWhen.{filed-exactly-when, filed-card, answered-exactly-when}
-use Rattle.filing.proofs.SaidOfTheSlots.{SlotThere, slot-there, said}
+use Rattle.filing.proofs.SaidOfTheSlots.{slot-there, said}
 use Rattle.filing.specs.declared.Filed.{Filed}
 use Rattle.cutting.specs.Cuts.{cutOf}
 use Rattle.cutting.specs.Sections.{stretch, Sized}
@@ -96,7 +96,7 @@ made-by-joining g h r e = e
 pub made-by-reading : (o : List ℕ) (r : Shelf) → r ≡ shelfIn o → (h : History) × (r ≡ shelfOf h)
 made-by-reading o r e = (cardsPut 64 (shelfIn o), e ∙ sym (tidy-is-history (shelfIn o) (tidy-in o)))
 
--- a record that is filed by itself: its five sections are a field, with which the history goes on, or it is refused with 20
+-- a record that is filed by itself: its five sections are filed, with which the history goes on, or it is refused with 20
 pub made-by-record : (h : History) (x : Sent) (r : Filed) → r ≡ recordFiled (shelfOf h) x
     → (g : History) × (r .shelf ≡ shelfOf g) × ((n : ℕ) → acceptedAt n g ≡ acceptedAt n h ++ acceptedOf n (x .slot) (recordFiling x))
 unfolding shelfOf acceptedAt acceptedOf recordFiled recordFiling bodyFiling filedOf filedBy
@@ -135,7 +135,11 @@ filing-card slot x = filed-card slot (x .issue) (x .s1) (x .s3) (x .s4) (x .s5) 
 pub issue-not-named : issueOf NotNamed ≡ 0
 issue-not-named = refl
 
--- of what the entries answer: it is kept or passed
+-- and one that names an issue gets that one
+pub issue-named : (n : ℕ) → issueOf (Named n) ≡ n
+issue-named n = refl
+
+-- of what the entries answer: kept or passed, exactly then
 pub filing-answers : (s : Shelf) (slot : ℕ) (x : FiledField) (r : Filed) → r ≡ filedOf s slot (x .issue) (x .s1) (x .s3) (x .s4) (x .s5) (x .s7) → AcceptedFiling (r .answer) ↔ FollowsFiling slot (x .s1) (x .s3) (x .s4) (x .s5) (x .s7)
 filing-answers s slot x = answered-exactly-when slot (x .issue) (x .s1) (x .s3) (x .s4) (x .s5) (x .s7) s
 
@@ -277,7 +281,7 @@ queue-again q h = once-more q (shelfOf h) (tidy h)
 -- ---- "Filing a queue reports kept (the slot changed), passed (it did not) and refused; the three sum to the records": the counts are defined by
 -- the slots before and after each record, and by what its filing is. Every shelf has 64 slots
 
-said-by : (s : Shelf) (slot : ℕ) (f : Filing) (r : Filed) → length (s .slots) ≡ 64 → SlotThere slot f → r ≡ filedBy s slot f → Said s slot f (r .shelf) (r .answer)
+said-by : (s : Shelf) (slot : ℕ) (f : Filing) (r : Filed) → length (s .slots) ≡ 64 → ((card : Card) → f ≡ accepted card → slot < 64) → r ≡ filedBy s slot f → Said s slot f (r .shelf) (r .answer)
 said-by s slot f r long there e = subst (λ (y : Filed). Said s slot f (y .shelf) (y .answer)) (sym e) (said s slot f long there)
 
 pub filing-says : (s : Shelf) (slot : ℕ) (x : FiledField) (r : Filed) → length (s .slots) ≡ 64 → r ≡ filedOf s slot (x .issue) (x .s1) (x .s3) (x .s4) (x .s5) (x .s7)

@@ -1,6 +1,6 @@
 -- Shelves as octets: each shelf that the entries make of octets is read back from its own octets, so that demand 3 holds of octets that are
 -- stored or sent between two calls. Whatever octets there are say the shelf of a history; zeroed ones the empty shelf. Joining octets
--- commutes, associates and is idempotent.
+-- commutes and associates; joined with themselves, octets say the shelf that they said.
 -- Assumes nothing.
 use Prim.Native.Nat.{ℕ, zero, suc, _+_, _-_, _*_, _^_, _<_, _≤_}
 use native.Mathlib.Omega.{arith}
@@ -85,7 +85,7 @@ filed-stored s slot (accepted card) t h = laws.stored-put s slot card t h
 
 -- ---- the shelves that filing a field and filing a queue make
 
-pub stored-filed : (s : Shelf) (slot : ℕ) (issue : Issue) (s1 s3 s4 s5 s7 : List ℕ) → Stored s → AllOctets s1 → issueOf issue < 2 ^ 32
+stored-filed : (s : Shelf) (slot : ℕ) (issue : Issue) (s1 s3 s4 s5 s7 : List ℕ) → Stored s → AllOctets s1 → issueOf issue < 2 ^ 32
     → Stored (filedOf s slot issue s1 s3 s4 s5 s7 .shelf)
 unfolding filedOf
 stored-filed s slot issue s1 s3 s4 s5 s7 t a h = filed-stored s slot (filingOf slot issue s1 s3 s4 s5 s7) t (filing-held slot issue s1 s3 s4 s5 s7 a h)
@@ -132,26 +132,13 @@ records-stored (r ∷ rs) p t s =
     records-stored rs (oneMore (p .counts) (recordFiled (p .shelf) r)) (t .1)
     (filed-stored (p .shelf) (r .slot) (recordFiling r) s (record-held r (t .0)))
 
-pub stored-queue : (s : Shelf) (q : List ℕ) → Stored s → AllOctets q → Stored (queueFiled s q .shelf)
+stored-queue : (s : Shelf) (q : List ℕ) → Stored s → AllOctets q → Stored (queueFiled s q .shelf)
 unfolding queueFiled
 stored-queue s q t a = by-refusal (eqb (queueRefusal q) 0)
   where
     by-refusal : (b : Bool) → Stored (cond b (acceptedQueue (recordsFiled (fromStart s) (cutOf recordStep q .items))) (refusedQueue s (queueRefusal q)) .shelf)
     by-refusal true = records-stored (cutOf recordStep q .items) (fromStart s) (cut-told q a) t
     by-refusal false = t
-
--- ---- each is read back from its octets
-
-pub read-after-filing : (o : List ℕ) (slot : ℕ) (issue : Issue) (s1 s3 s4 s5 s7 : List ℕ) → AllOctets o → AllOctets s1 → issueOf issue < 2 ^ 32
-    → shelfIn (asOctets (filedOf (shelfIn o) slot issue s1 s3 s4 s5 s7 .shelf)) ≡ filedOf (shelfIn o) slot issue s1 s3 s4 s5 s7 .shelf
-read-after-filing o slot issue s1 s3 s4 s5 s7 p a h =
-    laws.read-back _ (stored-filed (shelfIn o) slot issue s1 s3 s4 s5 s7 (laws.stored-in o p) a h)
-
-pub read-after-queue : (o q : List ℕ) → AllOctets o → AllOctets q → shelfIn (asOctets (queueFiled (shelfIn o) q .shelf)) ≡ queueFiled (shelfIn o) q .shelf
-read-after-queue o q p a = laws.read-back _ (stored-queue (shelfIn o) q (laws.stored-in o p) a)
-
-pub read-after-joining : (a b : List ℕ) → AllOctets a → AllOctets b → shelfIn (joinOctets a b) ≡ joinShelf (shelfIn a) (shelfIn b)
-read-after-joining = laws.join-read
 
 -- ---- so octets may be stored or sent between any two calls of a history
 

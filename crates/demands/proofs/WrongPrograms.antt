@@ -1,8 +1,8 @@
 -- Wrong programs: what they answer is not what the contracts allow; and of document 01's slips the right rule. (docs/WRONG-PROGRAMS.md has the
--- edits that try them and others.)
+-- edits that try them and others.) A theorem has the name of the wrong program that it turns away.
 -- Assumes nothing.
 use Prim.Native.Nat.{ℕ, _+_, _-_, _<_}
-use mathlib.Core.Path.{_≡_, refl, sym, ap, subst, subst⁻¹, _∙_}
+use mathlib.Core.Path.{_≡_, refl, sym, ap, subst⁻¹, _∙_}
 use mathlib.Core.Bool.{true, false}
 use mathlib.Core.List.{List, [], List·Memᴰ}
 use mathlib.Core.Logic.{_≢_}
@@ -22,7 +22,7 @@ use Rattle.filing.specs.Filing.{Filing, accepted, filingOf, filedBy, filedOf}
 use Rattle.filing.specs.declared.Issue.{Issue}
 use Rattle.filing.specs.declared.Answer.the-variants.{Kept}
 use Rattle.filing.specs.declared.Filed.{Filed}
-use Rattle.filing.proofs.SaidOfTheSlots.{SlotThere, slot-there}
+use Rattle.filing.proofs.SaidOfTheSlots.{slot-there}
 use Rattle.cutting.specs.Cuts.{cutIn, cutOf}
 use Rattle.queue.specs.Queues.{Sent, recordFiling, recordFiled, recordStep, recordsFiled, fromStart, queueRefusal, acceptedQueue, queueFiled}
 use Rattle.queue.specs.declared.Counts.{Counts}
@@ -47,23 +47,22 @@ pub put-shelf-stays : (s : Shelf) (slot : ℕ) (card : Card) (r : PutDone) → l
 put-shelf-stays s slot card r long there e =
     moved s (r .shelf) slot card there (subst⁻¹ (λ (y : PutDone). lessSlot (slotAt (y .shelf) slot) (holding card) ≡ false) e (put-takes s slot card long there))
 
-moved-by : (s : Shelf) (slot : ℕ) (f : Filing) (card : Card) (r : Filed) → length (s .slots) ≡ 64 → SlotThere slot f → f ≡ accepted card → r ≡ filedBy s slot f
+moved-by : (s : Shelf) (slot : ℕ) (f : Filing) (card : Card) (r : Filed) → length (s .slots) ≡ 64 → slot < 64 → f ≡ accepted card → r ≡ filedBy s slot f
     → (lessSlot (slotAt s slot) (holding card) ≡ true → r .shelf ≢ s) × (r .shelf ≢ emptyShelf)
 unfolding filedBy
 moved-by s slot f card r long there e filed =
-    let here : slot < 64 = subst (SlotThere slot) e there in
     let after : r .shelf ≡ putShelf s slot card = ap (λ (y : Filed). y .shelf) filed ∙ ap (λ (f : Filing). filedBy s slot f .shelf) e in
-    moved s (r .shelf) slot card here (rw after (put-takes s slot card long here))
+    moved s (r .shelf) slot card there (rw after (put-takes s slot card long there))
 
 pub filed-shelf-stays : (s : Shelf) (slot : ℕ) (issue : Issue) (s1 s3 s4 s5 s7 : List ℕ) (card : Card) (r : Filed) → length (s .slots) ≡ 64 → filingOf slot issue s1 s3 s4 s5 s7 ≡ accepted card → r ≡ filedOf s slot issue s1 s3 s4 s5 s7
     → (lessSlot (slotAt s slot) (holding card) ≡ true → r .shelf ≢ s) × (r .shelf ≢ emptyShelf)
 unfolding filedOf
-filed-shelf-stays s slot issue s1 s3 s4 s5 s7 card r long = moved-by s slot (filingOf slot issue s1 s3 s4 s5 s7) card r long (slot-there slot issue s1 s3 s4 s5 s7)
+filed-shelf-stays s slot issue s1 s3 s4 s5 s7 card r long e = moved-by s slot (filingOf slot issue s1 s3 s4 s5 s7) card r long (slot-there slot issue s1 s3 s4 s5 s7 card e) e
 
 pub record-shelf-stays : (s : Shelf) (x : Sent) (card : Card) (r : Filed) → length (s .slots) ≡ 64 → recordFiling x ≡ accepted card → r ≡ recordFiled s x
     → (lessSlot (slotAt s (x .slot)) (holding card) ≡ true → r .shelf ≢ s) × (r .shelf ≢ emptyShelf)
 unfolding recordFiled
-record-shelf-stays s x card r long = moved-by s (x .slot) (recordFiling x) card r long (record-there x)
+record-shelf-stays s x card r long e = moved-by s (x .slot) (recordFiling x) card r long (record-there x card e) e
 
 -- ---- a queue filing that handles the first record only: of each record of a queue that is filed, if it is accepted, the slot then holds no less than
 -- its card
@@ -79,7 +78,7 @@ first-record-only s q r n x card long e f m a =
 pub queue-shelf-stays : (s : Shelf) (q : List ℕ) (r : QueueFiled) (n : Counts) (x : Sent) (card : Card) → length (s .slots) ≡ 64 → r ≡ queueFiled s q → r .answer ≡ filedAll n
     → List·Memᴰ x (cutOf recordStep q .items) → recordFiling x ≡ accepted card → (lessSlot (slotAt s (x .slot)) (holding card) ≡ true → r .shelf ≢ s) × (r .shelf ≢ emptyShelf)
 queue-shelf-stays s q r n x card long e f m a =
-    moved s (r .shelf) (x .slot) card (subst (SlotThere (x .slot)) a (record-there x)) (first-record-only s q r n x card long e f m a)
+    moved s (r .shelf) (x .slot) card (record-there x card a) (first-record-only s q r n x card long e f m a)
 
 -- ---- a lent shelf that stays as it was: that is not `Kept`
 

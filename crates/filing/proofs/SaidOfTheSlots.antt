@@ -18,16 +18,8 @@ use Rattle.filing.proofs.FiledExactlyWhen.{filed-exactly-when}
 
 -- ---- a card is accepted only for a slot that is there: 16
 
-abbrev pub SlotThere : ℕ → Filing → Type 0
-SlotThere slot (refusedFiling number section place) = Unit {0}
-SlotThere slot (accepted card) = slot < 64
-
-pub slot-there : (slot : ℕ) (issue : Issue) (s1 s3 s4 s5 s7 : List ℕ) → SlotThere slot (filingOf slot issue s1 s3 s4 s5 s7)
-slot-there slot issue s1 s3 s4 s5 s7 = by-filing (filingOf slot issue s1 s3 s4 s5 s7) refl
-  where
-    by-filing : (f : Filing) → filingOf slot issue s1 s3 s4 s5 s7 ≡ f → SlotThere slot f
-    by-filing (refusedFiling number section place) e = tt
-    by-filing (accepted card) e = filed-exactly-when slot issue s1 s3 s4 s5 s7 .0 (card, e) .there
+pub slot-there : (slot : ℕ) (issue : Issue) (s1 s3 s4 s5 s7 : List ℕ) (card : Card) → filingOf slot issue s1 s3 s4 s5 s7 ≡ accepted card → slot < 64
+slot-there slot issue s1 s3 s4 s5 s7 card e = filed-exactly-when slot issue s1 s3 s4 s5 s7 .0 (card, e) .there
 
 -- ---- what is answered
 
@@ -38,7 +30,7 @@ put-said s slot c long h true e =
     record { card = c; accepts = refl; held-less = e; holds = holds; changed = λ same. less-apart slot-strict e (sym same ∙ holds); others = λ k d. put-other s slot k c d }
 put-said s slot c long h false e = record { card = c; accepts = refl; holds-no-less = e; same = put-stays s slot c e }
 
-pub said : (s : Shelf) (slot : ℕ) (f : Filing) → length (s .slots) ≡ 64 → SlotThere slot f → Said s slot f (filedBy s slot f .shelf) (filedBy s slot f .answer)
+pub said : (s : Shelf) (slot : ℕ) (f : Filing) → length (s .slots) ≡ 64 → ((card : Card) → f ≡ accepted card → slot < 64) → Said s slot f (filedBy s slot f .shelf) (filedBy s slot f .answer)
 unfolding filedBy
 said s slot (refusedFiling number section place) long h = record { refuses = refl; same = refl }
-said s slot (accepted card) long h = rw (lt-ltb slot 64 h) (put-said s slot card long h (lessSlot (slotAt s slot) (holding card)) refl)
+said s slot (accepted card) long h = rw (lt-ltb slot 64 (h card refl)) (put-said s slot card long (h card refl) (lessSlot (slotAt s slot) (holding card)) refl)

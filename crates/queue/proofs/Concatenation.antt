@@ -27,10 +27,14 @@ filed-in-turn (r ∷ rs) more p = filed-in-turn rs more (oneMore (p .counts) (re
 abbrev pub added : Counts → Counts → Counts
 added m n = record { kept = m .kept + n .kept; passed = m .passed + n .passed; refused = m .refused + n .refused }
 
+-- counts are what their three are
+same-counts : (m n : Counts) → m .kept ≡ n .kept → m .passed ≡ n .passed → m .refused ≡ n .refused → m ≡ n
+same-counts m n kept passed refused = λ i. record { kept = kept i; passed = passed i; refused = refused i }
+
 one-added : (m n : Counts) (a : Answer) → counted (added m n) a ≡ added m (counted n a)
-one-added m n Kept = let k : m .kept + n .kept + 1 ≡ m .kept + (n .kept + 1) = omega arith in λ i. record { kept = k i; passed = m .passed + n .passed; refused = m .refused + n .refused }
-one-added m n Passed = let k : m .passed + n .passed + 1 ≡ m .passed + (n .passed + 1) = omega arith in λ i. record { kept = m .kept + n .kept; passed = k i; refused = m .refused + n .refused }
-one-added m n (Refused x) = let k : m .refused + n .refused + 1 ≡ m .refused + (n .refused + 1) = omega arith in λ i. record { kept = m .kept + n .kept; passed = m .passed + n .passed; refused = k i }
+one-added m n Kept = same-counts _ _ (omega arith) (omega arith) (omega arith)
+one-added m n Passed = same-counts _ _ (omega arith) (omega arith) (omega arith)
+one-added m n (Refused x) = same-counts _ _ (omega arith) (omega arith) (omega arith)
 
 -- counts that were there before are added to those of the records
 counts-added : (rs : List Sent) (s : Shelf) (m n : Counts)
@@ -45,11 +49,7 @@ counts-before : (rs : List Sent) (p : Progress) → recordsFiled p rs ≡ record
 counts-before rs p = ap (λ (k : Counts). recordsFiled (record { shelf = p .shelf; counts = k }) rs) none ∙ counts-added rs (p .shelf) (p .counts) (record { kept = 0; passed = 0; refused = 0 })
   where
     none : p .counts ≡ added (p .counts) (record { kept = 0; passed = 0; refused = 0 })
-    none =
-        let k : p .counts .kept ≡ p .counts .kept + 0 = omega arith in
-        let l : p .counts .passed ≡ p .counts .passed + 0 = omega arith in
-        let m : p .counts .refused ≡ p .counts .refused + 0 = omega arith in
-        λ i. record { kept = k i; passed = l i; refused = m i }
+    none = same-counts _ _ (omega arith) (omega arith) (omega arith)
 
 -- Two queues one after the other are filed as their octets one behind the other are, where these are not too many for a queue.
 pub two-queues : (p q : List ℕ) (s : Shelf) (a b : Progress) → queueFiled s p ≡ acceptedQueue a → queueFiled (a .shelf) q ≡ acceptedQueue b → length (p ++ q) ≤ 65536

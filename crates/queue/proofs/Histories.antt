@@ -17,7 +17,7 @@ use Rattle.shelf.specs.History.{Keeps, Tidy}
 use Rattle.shelf.proofs.CardHistory.{CardHistory as Cards, start as noCards, put as putCard, join as joinCards, shelfOf as shelfOfCards, acceptedAt as acceptedCards, fileAll}
 use Rattle.shelf.proofs.Histories.{tidy as tidy-cards, greatest-card as greatest-of-cards, any-order as any-order-of-cards}
 use Rattle.filing.specs.Filing.{Filing, refusedFiling, accepted, filingOf, filedBy, filedOf}
-use Rattle.filing.proofs.SaidOfTheSlots.{SlotThere, slot-there}
+use Rattle.filing.proofs.SaidOfTheSlots.{slot-there}
 use Rattle.queue.specs.Queues.{Sent, recordFiling, fromStart, recordStep, queueRefusal, queueFiled}
 use Rattle.queue.proofs.RecordsAsCards.{cardBefore, cardsIn, one-card, records-are-cards, record-there}
 use Rattle.queue.specs.History.{FiledField, History, start, put, file, queue, join, shelfOf, acceptedPut, acceptedOf, acceptedIn, recordsOf, acceptedAt}
@@ -143,10 +143,10 @@ put-past-63 n slot card l = by-slot (ltb 63 slot) refl
     by-slot true e = refl
     by-slot false e = rw (ne-eqb slot n (λ q. let small : slot ≤ 63 = ltb-false 63 slot e in omega arith))
 
-filing-past-63 : (n slot : ℕ) (f : Filing) → SlotThere slot f → 64 ≤ n → acceptedOf n slot f ≡ []
+filing-past-63 : (n slot : ℕ) (f : Filing) → ((card : Card) → f ≡ accepted card → slot < 64) → 64 ≤ n → acceptedOf n slot f ≡ []
 unfolding acceptedOf
 filing-past-63 n slot (refusedFiling number section place) h l = refl
-filing-past-63 n slot (accepted card) h l = rw (ne-eqb slot n (λ q. omega arith))
+filing-past-63 n slot (accepted card) h l = let here = h card refl in rw (ne-eqb slot n (λ q. omega arith))
 
 records-past-63 : (n : ℕ) (rs : List Sent) → 64 ≤ n → acceptedIn n rs ≡ []
 unfolding acceptedIn

@@ -5,7 +5,7 @@ use mathlib.Core.Path.{_≡_, refl, sym, ap, subst, _∙_}
 use mathlib.Core.Bool.{false}
 use mathlib.Core.List.{List, [], _∷_, _++_, List·Memᴰ, List·Memᴰ·head, List·Memᴰ·tail, List·Memᴰ·cases-cons, List·Memᴰ·not-nil}
 use mathlib.Core.Logic.{_⊎_, inl, inr}
-use Prim.Native.Nat.{ℕ}
+use Prim.Native.Nat.{ℕ, _<_}
 use lib.ListN.{length}
 use Rattle.card.specs.declared.Card.{Card}
 use Rattle.shelf.specs.declared.Shelf.{Shelf}
@@ -13,12 +13,9 @@ use Rattle.shelf.specs.Shelves.{lessSlot, holding, slotAt}
 use Rattle.shelf.proofs.CardHistory.{fileAll}
 use Rattle.shelf.proofs.NoLess.{file-takes}
 use Rattle.filing.specs.Filing.{Filing, refusedFiling, accepted, filedBy}
-use Rattle.filing.proofs.SaidOfTheSlots.{SlotThere, slot-there}
-use Rattle.queue.specs.Bodies.{bodyOf}
-use Rattle.queue.specs.Queues.{Sent, bodyFiling, recordFiling, recordFiled, oneMore, recordsFiled}
-use Rattle.queue.specs.declared.Body.{Body}
-use Rattle.queue.specs.declared.Body.the-variants.{Five, NotFive}
+use Rattle.queue.specs.Queues.{Sent, recordFiling, recordFiled, oneMore, recordsFiled}
 use Rattle.queue.specs.declared.Progress.{Progress}
+use Rattle.queue.proofs.FiveSections.{record-accepted}
 
 -- the cards of the records that are accepted, with their slots
 unfoldable pub cardBefore : ℕ → Filing → List (ℕ × Card) → List (ℕ × Card)
@@ -53,13 +50,8 @@ as-if-never-sent (x ∷ earlier) later r p number section place e =
 
 -- ---- a record that is accepted is for a slot that is there, and then that slot holds no less than its card
 
-pub record-there : (r : Sent) → SlotThere (r .slot) (recordFiling r)
-unfolding recordFiling bodyFiling
-record-there r = by-body (bodyOf (r .body))
-  where
-    by-body : (b : Body) → SlotThere (r .slot) (bodyFiling (r .slot) (r .issue) (r .body) b)
-    by-body NotFive = tt
-    by-body (Five e) = slot-there (r .slot) (r .issue) _ _ _ _ _
+pub record-there : (r : Sent) (card : Card) → recordFiling r ≡ accepted card → r .slot < 64
+record-there r card e = record-accepted r .0 (card, e) .1 .there
 
 card-among : (rs : List Sent) (r : Sent) (card : Card) → recordFiling r ≡ accepted card → List·Memᴰ r rs → List·Memᴰ (r .slot, card) (cardsIn rs)
 unfolding cardsIn cardBefore
@@ -77,4 +69,4 @@ card-among (x ∷ rs) r card e m = by-place (card-among rs r card e) (List·Mem�
 pub records-take : (rs : List Sent) (p : Progress) (r : Sent) (card : Card) → length (p .shelf .slots) ≡ 64 → List·Memᴰ r rs → recordFiling r ≡ accepted card
     → lessSlot (slotAt (recordsFiled p rs .shelf) (r .slot)) (holding card) ≡ false
 records-take rs p r card long m e =
-    rw (records-are-cards rs p) (file-takes (cardsIn rs) (p .shelf) (r .slot) card long (subst (SlotThere (r .slot)) e (record-there r)) (card-among rs r card e m))
+    rw (records-are-cards rs p) (file-takes (cardsIn rs) (p .shelf) (r .slot) card long (record-there r card e) (card-among rs r card e m))

@@ -8,9 +8,10 @@ use mathlib.Core.Bool.{Bool, true, false, cond}
 use mathlib.Core.List.{List, _++_, append-assoc}
 use lib.Dec.{ltb, eqb}
 use lib.ListN.{length, drop, take, length-append, length-drop}
-use lib.Seq.{length-take-le, take-length, drop-append-seam, drop-append-add, take-add, getD-drop}
+use lib.Seq.{length-take-le, take-length, drop-append-seam, drop-append-add, take-add}
 use borrow.Author.Tests.{le-ltb, ltb-false, ne-eqb, eqb-true, eqb-false}
 use Rattle.octets.specs.Octets.{AllOctets}
+use Rattle.octets.proofs.Laws.{drop-octets}
 use Rattle.cutting.specs.Numbers.{leadingNumber, withNumber, groups, spelled}
 use Rattle.cutting.specs.Cuts.{Cut, item, cutOf}
 use Rattle.cutting.specs.declared.Number.{Number}
@@ -105,9 +106,6 @@ cut-spelled rs p = cut-strung recordStep records-advance spelledRecord rs (λ r 
 
 -- ---- what is read as a record is what the record spells
 
-octets-behind : (s : List ℕ) (n : ℕ) → AllOctets s → AllOctets (drop n s)
-octets-behind s n o i = rw getD-drop (o (n + i))
-
 number-spelled : (s : List ℕ) (n count : ℕ) → AllOctets s → leadingNumber s ≡ Found n count → spelled 5 n ≡ take count s
 unfolding leadingNumber
 number-spelled s n count o e = sym (one-spelling 5 s n count o (of-groups (groups 5 s) n count e))
@@ -150,8 +148,8 @@ module _ (s : List ℕ) (x : Sent) (end : ℕ) (e : recordStep s ≡ item x end)
   unfolding spelledRecord
   found-spelled o =
       let one = number-spelled s _ _ o (there .first) in
-      let two = ap (spelled 5) (ap storedOf (there .named) ∙ stored-back (there .stored)) ∙ number-spelled _ _ _ (octets-behind s (there .a) o) (there .second) in
-      let three = ap (spelled 5) body-size ∙ number-spelled _ _ _ (octets-behind s (there .a + there .b) o) (there .third) in
+      let two = ap (spelled 5) (ap storedOf (there .named) ∙ stored-back (there .stored)) ∙ number-spelled _ _ _ (drop-octets (there .a) s o) (there .second) in
+      let three = ap (spelled 5) body-size ∙ number-spelled _ _ _ (drop-octets (there .a + there .b) s o) (there .third) in
       ap spelledRecord is-x
       ∙ ap₂ _++_ one (ap₂ _++_ two (ap₂ _++_ three body-is))
       ∙ sym (parts (there .a) (there .b) (there .c) (there .size))
@@ -163,7 +161,7 @@ module _ (s : List ℕ) (x : Sent) (end : ℕ) (e : recordStep s ≡ item x end)
 
 -- written again they are the queue, and each can be written
 pub spelled-again : (q : List ℕ) → AllOctets q → cutOf recordStep q .whole ≡ true → spelledAll (cutOf recordStep q .items) ≡ q
-spelled-again q o w = strung-cut recordStep records-advance spelledRecord AllOctets octets-behind (λ s x end o e. found-spelled s x end e o) q o w
+spelled-again q o w = strung-cut recordStep records-advance spelledRecord AllOctets (λ s n. drop-octets n s) (λ s x end o e. found-spelled s x end e o) q o w
 
 pub all-spellable : (q : List ℕ) → AllSpellable (cutOf recordStep q .items)
 all-spellable = each-item recordStep records-advance Spellable found-spellable

@@ -1,5 +1,5 @@
--- Document 01's starred examples of queues: 300 in groups of seven is AC 02, so that AC 02 00 00 is one record of slot 300, without an issue and
--- without a body; and 80 00 is 19: no number, also where what would be an issue and a body length follow.
+-- Document 01's starred example of a queue: 300 in groups of seven is AC 02, so that AC 02 00 00 is one record of slot 300, without an issue and
+-- without a body; beside it, that 80 00 is 19: no number, also where what would be an issue and a body length follow.
 -- Assumes nothing.
 use Prim.Native.Nat.{ℕ}
 use mathlib.Core.List.{List, [], _∷_, map}
