@@ -55,7 +55,7 @@ use Rattle.grid.proofs.MeansByName.{means₃}
 use Rattle.grid.proofs.ListShown.{those-very-octets, without-a-list, points-are-its-sum, refused-shows-none}
 use Rattle.product.specs.Blocks.{valuesIn as valuesIn₄}
 use Rattle.product.specs.Templates.{fieldsIn, values₄}
-use Rattle.product.specs.Table.{octet, TemplateRow, countIn, isTimed, octets₄}
+use Rattle.product.specs.Table.{atOctet, TemplateRow, countIn, isTimed, octets₄}
 use Rattle.product.specs.Section4 as four
 use Rattle.product.specs.Views.{rangeOf, membersOf, coordinatesOf, firstStrung}
 use Rattle.product.specs.Accepted.{Follows₄}
@@ -82,7 +82,7 @@ use Rattle.packing.specs.declared.DataAnswer.{DataAnswer}
 use Rattle.packing.specs.declared.DataAnswer.the-variants.{Read as Read₇}
 use Rattle.packing.specs.declared.DataSection.{DataSection}
 use Rattle.packing.proofs.AcceptedExactlyWhen.{accepted-exactly-when₅, accepted-follows₅, accepted-exactly-when₇alone, accepted-follows₇alone, fields-say₇, accepted-exactly-when₇, accepted-follows₇}
-use Rattle.packing.proofs.FieldsCoverOnce.{covered₅, covered₇alone, covered₇}
+use Rattle.packing.proofs.FieldsCoverOnce.{covered₅, covered₇alone, covered₇, packed-rounded-up}
 use Rattle.packing.specs.Means.{Means₅, Means₇}
 use Rattle.packing.proofs.MeansByName.{means₅, means₇}
 use Rattle.packing.proofs.UnpackedExactlyWhen.{unpacked-exactly-when, written, spare-ignored, width-0-zeros}
@@ -160,6 +160,10 @@ section-5-covered s f = covered₅ s (f .whole)
 
 pub section-7-covered : (n bits : ℕ) (s : List ℕ) → Follows₇ n bits s → Covered (after 0 (seven.fields₇ n bits)) (octets₇ n bits) s
 section-7-covered n bits s f = covered₇ n bits s (f .whole)
+
+-- "N x bits / 8 rounded up": the packed octets have all N x bits bits, and fewer than 8 bits beside them
+pub section-7-rounded-up : (n bits : ℕ) → (n * bits ≤ 8 * seven.packedOctets n bits) × (8 * seven.packedOctets n bits < n * bits + 8)
+section-7-rounded-up = packed-rounded-up
 
 -- alone, five octets and the rest
 pub section-7-alone-covered : (s : List ℕ) → Follows₇alone s → Covered (after 0 (seven.fields₇alone (length s - 5))) (octets₇alone (length s - 5)) s
@@ -260,7 +264,7 @@ pub views-of-section-4 : (row : TemplateRow) (s : List ℕ) → Follows₄ row s
 views-of-section-4 = views-shown
 
 -- by octet numbers: if n stands at octet p, the ranges start at p + 5; the members follow them, and then the coordinates
-pub range-by-octet : (row : TemplateRow) (s : List ℕ) → Follows₄ row s → (p : ℕ) → row .ranges ≡ octet p → (k : ℕ) → k < beAt s p 1 → rangeOf s k ≡ part s (p + 5 + 12 * k) 12
+pub range-by-octet : (row : TemplateRow) (s : List ℕ) → Follows₄ row s → (p : ℕ) → row .ranges ≡ atOctet p → (k : ℕ) → k < beAt s p 1 → rangeOf s k ≡ part s (p + 5 + 12 * k) 12
 range-by-octet = range-stands
 
 pub members-by-octet : (row : TemplateRow) (s : List ℕ) → Follows₄ row s → membersOf s ≡ part s (row .octets + 12 * countIn (row .ranges) s + 1) (countIn (row .members) s)

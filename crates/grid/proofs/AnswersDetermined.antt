@@ -1,12 +1,11 @@
 -- Any two answers that `read`'s contract allows for a section are one answer.
 -- Assumes nothing.
 use Prim.Native.Nat.{ℕ, zero, suc}
-use mathlib.Core.Path.{_≡_, refl, ap, sym, _∙_}
+use mathlib.Core.Path.{_≡_, refl, ap}
 use mathlib.Core.List.{List}
 use lib.ListN.{getD, drop}
 use Rattle.layout.specs.Fields.{Value, none, wholeIn, naturalIn}
-use Rattle.layout.specs.Outcomes.{Outcome, refused, read, refusal}
-use Rattle.layout.proofs.Untold.{to32, back32, told-back}
+use Rattle.layout.proofs.Untold.{to32, back32, told-back, one-answer}
 use Rattle.grid.specs.Blocks.{valuesIn, earthSizeIn, earthIn, commonIn, poleIn, polesIn}
 use Rattle.grid.specs.Section3.{told, outcome₃}
 use Rattle.grid.specs.declared.blocks.EarthSize.{EarthSize}
@@ -89,16 +88,7 @@ grid-back x = simp (back32, poles-back)
 pub same-record : (x y : Grid) → valuesIn x ≡ valuesIn y → x ≡ y
 same-record = told-back valuesIn toGrid grid-back
 
--- ---- the answer that an outcome is of
-
-untold : Outcome → Answer
-untold (refused n s p) = Refused (refusal n s p)
-untold (read vs) = Read (toGrid vs)
-
-back : (a : Answer) → untold (told a) ≡ a
-unfolding untold told
-back (Refused x) = refl
-back (Read x) = ap Read (grid-back x)
-
+-- and two answers that say the same are one answer
 pub determined : (s : List ℕ) (a b : Answer) → told a ≡ outcome₃ s → told b ≡ outcome₃ s → a ≡ b
-determined s a b p q = told-back told untold back a b (p ∙ sym q)
+unfolding told
+determined s = one-answer told Refused Read toGrid (elim [ Refused x ↦ refl | Read x ↦ ap Read (grid-back x) ]) (outcome₃ s)

@@ -12,8 +12,9 @@ use Rattle.grid.specs.Points.{sumOf}
 use Rattle.grid.specs.declared.templates.Template.{Template}
 use Rattle.grid.specs.declared.templates.Template.the-variants.{LatLon, Rotated, Stretched, StretchedAndRotated}
 
--- the octets of each field by their numbers, in every section 3: 1-4, 5, 6, 7-10, 11, 12, 13-14; shape of the earth and its sizes 15, 16,
--- 17-20, 21, 22-25, 26, 27-30; Ni, Nj, basic angle, subdivisions 31-34, 35-38, 39-42, 43-46; and 47-50, 51-54, 55, 56-59, 60-63, 64-67, 68-71, 72
+-- the octets of each field by their numbers, in every section 3: length, section number; source; points; width and interpretation of the
+-- list; template; shape of the earth, and of its radius, major and minor axis: scale factor, value; Ni, Nj; basic angle, subdivisions; La1, Lo1;
+-- component flags; La2, Lo2; Di, Dj; scanning mode
 abbrev pub octetsTo72 : List Run
 octetsTo72 =
     run 1 4

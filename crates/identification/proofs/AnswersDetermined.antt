@@ -1,14 +1,13 @@
 -- Any two answers that `read`'s contract allows for a section are one answer.
 -- Assumes nothing.
 use Prim.Native.Nat.{ℕ}
-use mathlib.Core.Path.{_≡_, refl, ap, sym, _∙_}
+use mathlib.Core.Path.{_≡_, refl, ap}
 use mathlib.Core.List.{List}
 use lib.ListN.{getD}
 use lib.IntN.{natAbs}
 use Rattle.layout.specs.Fields.{Value, none, missing, is, which, wholeIn, naturalIn}
-use Rattle.layout.specs.Outcomes.{Outcome, refused, read, refusal}
 use Rattle.layout.specs.Time.{timeIn}
-use Rattle.layout.proofs.Untold.{toTime, told-back}
+use Rattle.layout.proofs.Untold.{toTime, told-back, one-answer}
 use Rattle.identification.specs.Section1.{told, valuesIn, numberIn, calendarIn, offsetIn, outcome₁}
 use Rattle.identification.specs.declared.TemplateNumber.{TemplateNumber}
 use Rattle.identification.specs.declared.TemplateNumber.the-variants.{None as noNumber, Is as isNumber}
@@ -99,16 +98,7 @@ identification-back x =
 pub same-record : (x y : Identification) → valuesIn x ≡ valuesIn y → x ≡ y
 same-record = told-back valuesIn toIdentification identification-back
 
--- ---- the answer that an outcome is of
-
-untold : Outcome → Answer
-untold (refused n s p) = Refused (refusal n s p)
-untold (read vs) = Read (toIdentification vs)
-
-back : (a : Answer) → untold (told a) ≡ a
-unfolding untold told
-back (Refused x) = refl
-back (Read x) = ap Read (identification-back x)
-
+-- and two answers that say the same are one answer
 pub determined : (s : List ℕ) (a b : Answer) → told a ≡ outcome₁ s → told b ≡ outcome₁ s → a ≡ b
-determined s a b p q = told-back told untold back a b (p ∙ sym q)
+unfolding told
+determined s = one-answer told Refused Read toIdentification (elim [ Refused x ↦ refl | Read x ↦ ap Read (identification-back x) ]) (outcome₁ s)

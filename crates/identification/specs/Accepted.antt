@@ -10,7 +10,8 @@ use Rattle.identification.specs.Section1.{total}
 use Rattle.identification.specs.declared.Template.{Template}
 use Rattle.identification.specs.declared.Template.the-variants.{None as noTemplate, Calendar, Offset, CalendarAndOffset}
 
--- the octets of each field by their numbers, in every section 1: 1-4, 5, 6-7, 8-9, 10, 11, 12, 13-14, 15, 16, 17, 18, 19, 20, 21
+-- the octets of each field by their numbers, in every section 1: length, section number; centre, sub-centre; versions of the master and the
+-- local tables; significance; year; month, day, hour, minute, second; status; type of data
 abbrev pub octetsTo21 : List Run
 octetsTo21 =
     run 1 4

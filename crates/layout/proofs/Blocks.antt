@@ -4,12 +4,12 @@ use mathlib.Core.Path.{_≡_, refl, ap, sym, subst, _∙_}
 use mathlib.Core.List.{List, [], _∷_, _++_, append-assoc}
 use mathlib.Core.Bool.{Bool, true, false, cond}
 use Prim.Native.Nat.{ℕ, _+_, _≤_}
-use native.Mathlib.Nat.{add-zero, add-assoc, add-comm}
+use native.Mathlib.Nat.{zero-add, add-zero, add-assoc, add-comm}
 use native.Mathlib.Omega.{arith}
 use lib.ListN.{length, drop}
 use Rattle.octets.specs.Octets.{beAt, part}
 use Rattle.octets.proofs.Laws.{part-add, part-all, beAt-drop}
-use Rattle.layout.specs.Fields.{Field, held, said, shown, FieldAt, width, allowed, reads, widthOf, placed, after, Run, runs, Cover, lowestBad, badPlace, valuesOf, octetsOf, AllAllowed, Covered}
+use Rattle.layout.specs.Fields.{Field, held, said, shown, FieldAt, width, allowed, reads, widthOf, placed, after, Run, run, runs, Cover, lowestBad, badPlace, valuesOf, octetsOf, AllAllowed, Covered}
 
 pub width-append : (a b : List Field) → widthOf (a ++ b) ≡ widthOf a + widthOf b
 unfolding widthOf
@@ -55,6 +55,20 @@ pub bad-meet : (end : ℕ) (a b : List Field) (s : List ℕ) (later : ℕ) → l
 bad-meet end a b s later = rw (after-append, bad-append)
 
 -- ---- they cover the octets
+
+-- the octets of fields one after the other, the first of them from octet `first` on
+abbrev pub runsFrom : ℕ → List Field → List Run
+runsFrom first [] = []
+runsFrom first (held w a m ∷ fs) = run first w ∷ runsFrom (first + w) fs
+runsFrom first (said v ∷ fs) = runsFrom first fs
+runsFrom first (shown w ∷ fs) = run first w ∷ runsFrom (first + w) fs
+
+pub runs-from : (k : ℕ) (fs : List Field) → runs (placed 0 k fs) ≡ runsFrom k fs
+unfolding runs placed
+runs-from k [] = refl
+runs-from k (held w a m ∷ fs) = λ i. run (zero-add k i) w ∷ runs-from (k + w) fs i
+runs-from k (said v ∷ fs) = rw add-zero (runs-from k fs)
+runs-from k (shown w ∷ fs) = λ i. run (zero-add k i) w ∷ runs-from (k + w) fs i
 
 -- the fields' octets, one after the other, are the octets from where they start: none is left out and none is in two
 octets-from : (end k : ℕ) (fs : List Field) (s : List ℕ) → octetsOf (placed end k fs) s ≡ part s (end + k) (widthOf fs)

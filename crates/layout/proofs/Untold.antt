@@ -10,7 +10,9 @@ use lib.IntN.{natAbs}
 use Rattle.octets.specs.Octets.{signOf, allOnes}
 use Rattle.layout.specs.Fields.{Value, none, missing, is, which, plain, naturalIn, means, unsigned, signed, orMissing}
 use Rattle.layout.specs.Missing.{in32, inSigned, unlessMissing, signedUnlessMissing}
+use Rattle.layout.specs.Outcomes.{Outcome, refused, read, refusal}
 use Rattle.layout.specs.Time.{timeIn}
+use Rattle.layout.specs.declared.Refusal.{Refusal}
 use Rattle.layout.specs.declared.Time.{Time}
 use Rattle.layout.specs.declared.U32OrMissing.{U32OrMissing}
 use Rattle.layout.specs.declared.U32OrMissing.the-variants.{Missing as no32, Is as is32}
@@ -80,3 +82,13 @@ toTime vs k =
 pub sameTime : (x y : Time) → timeIn x ≡ timeIn y → x ≡ y
 unfolding timeIn
 sameTime = told-back timeIn (λ vs. toTime vs 0) (λ x. refl)
+
+-- ---- the answer that an outcome is of: one that refuses, or one that reads the record that says these values
+
+abbrev pub untold : {A X : Type 0} → (Refusal → A) → (X → A) → (List Value → X) → Outcome → A
+untold isRefused isRead toRecord (refused n s p) = isRefused (refusal n s p)
+untold isRefused isRead toRecord (read vs) = isRead (toRecord vs)
+
+-- where each answer is had back from what it says, two answers that say one outcome are one answer
+pub one-answer : {A X : Type 0} (tell : A → Outcome) (isRefused : Refusal → A) (isRead : X → A) (toRecord : List Value → X) → ((a : A) → untold isRefused isRead toRecord (tell a) ≡ a) → (o : Outcome) (a b : A) → tell a ≡ o → tell b ≡ o → a ≡ b
+one-answer tell isRefused isRead toRecord back o a b p q = told-back tell (untold isRefused isRead toRecord) back a b (p ∙ sym q)

@@ -5,14 +5,15 @@ use mathlib.Core.Path.{_≡_, refl, ap, sym, _∙_}
 use mathlib.Core.List.{List}
 use lib.ListN.{getD}
 use Rattle.layout.specs.Fields.{Value, none, wholeIn, naturalIn}
-use Rattle.layout.specs.Outcomes.{Outcome, refused, read, refusal}
-use Rattle.layout.proofs.Untold.{told-back}
+use Rattle.layout.specs.Outcomes.{Outcome}
+use Rattle.layout.proofs.Untold.{told-back, one-answer}
 use Rattle.packing.specs.Section5.{told₅, valuesIn₅, outcome₅}
 use Rattle.packing.specs.Section7.{told₇, valuesIn₇, outcome₇}
 use Rattle.packing.specs.Unpacking.{toldUnpacked, Unpacks}
 use Rattle.packing.specs.declared.Packing.{Packing}
 use Rattle.packing.specs.declared.Answer.{Answer}
 use Rattle.packing.specs.declared.Answer.the-variants.{Read as Read₅, Refused as Refused₅}
+use Rattle.packing.specs.declared.DataSection.{DataSection}
 use Rattle.packing.specs.declared.DataAnswer.{DataAnswer}
 use Rattle.packing.specs.declared.DataAnswer.the-variants.{Read as Read₇, Refused as Refused₇}
 use Rattle.packing.specs.declared.Unpacked.{Unpacked}
@@ -43,43 +44,27 @@ packing-back x = refl
 pub same-record₅ : (x y : Packing) → valuesIn₅ x ≡ valuesIn₅ y → x ≡ y
 same-record₅ = told-back valuesIn₅ toPacking packing-back
 
-untold₅ : Outcome → Answer
-untold₅ (refused n s p) = Refused₅ (refusal n s p)
-untold₅ (read vs) = Read₅ (toPacking vs)
-
-back₅ : (a : Answer) → untold₅ (told₅ a) ≡ a
-unfolding untold₅ told₅
-back₅ (Refused₅ x) = refl
-back₅ (Read₅ x) = ap Read₅ (packing-back x)
-
+-- and two answers that say the same are one answer
 pub determined₅ : (s : List ℕ) (a b : Answer) → told₅ a ≡ outcome₅ s → told₅ b ≡ outcome₅ s → a ≡ b
-determined₅ s a b p q = told-back told₅ untold₅ back₅ a b (p ∙ sym q)
+unfolding told₅
+determined₅ s = one-answer told₅ Refused₅ Read₅ toPacking (elim [ Refused₅ x ↦ refl | Read₅ x ↦ ap Read₅ (packing-back x) ]) (outcome₅ s)
 
 -- ---- section 7
 
-untold₇ : Outcome → DataAnswer
-untold₇ (refused n s p) = Refused₇ (refusal n s p)
-untold₇ (read vs) = Read₇ (record { length = naturalIn (getD vs 0 none); number = naturalIn (getD vs 1 none) })
-
-back₇ : (a : DataAnswer) → untold₇ (told₇ a) ≡ a
-unfolding untold₇ told₇ valuesIn₇
-back₇ (Refused₇ x) = refl
-back₇ (Read₇ x) = refl
+-- the record that says these values
+abbrev toData : List Value → DataSection
+toData vs = record { length = naturalIn (getD vs 0 none); number = naturalIn (getD vs 1 none) }
 
 pub determined₇ : (n bits : ℕ) (s : List ℕ) (a b : DataAnswer) → told₇ a ≡ outcome₇ n bits s → told₇ b ≡ outcome₇ n bits s → a ≡ b
-determined₇ n bits s a b p q = told-back told₇ untold₇ back₇ a b (p ∙ sym q)
+unfolding told₇ valuesIn₇
+determined₇ n bits s = one-answer told₇ Refused₇ Read₇ toData (elim [ Refused₇ x ↦ refl | Read₇ x ↦ refl ]) (outcome₇ n bits s)
 
 -- ---- unpacking
 
-untold : Outcome → Unpacked
-untold (refused n s p) = Refused (refusal n s p)
-untold (read vs) = Written (naturalIn (getD vs 0 none))
-
-back : (a : Unpacked) → untold (toldUnpacked a) ≡ a
-unfolding untold toldUnpacked
-back (Refused x) = refl
-back (Written n) = refl
+-- two answers that say the same are one answer
+same-answer : (o : Outcome) (a b : Unpacked) → toldUnpacked a ≡ o → toldUnpacked b ≡ o → a ≡ b
+unfolding toldUnpacked
+same-answer = one-answer toldUnpacked Refused Written (λ vs. naturalIn (getD vs 0 none)) (elim [ Refused x ↦ refl | Written n ↦ refl ])
 
 pub determined : (five seven row : List ℕ) (a b : Unpacked) (after later : List ℕ) → Unpacks five seven row a after → Unpacks five seven row b later → (a ≡ b) × (after ≡ later)
-determined five seven row a b after later p q =
-    (told-back toldUnpacked untold back a b (p .answers ∙ sym (q .answers)), p .leaves ∙ sym (q .leaves))
+determined five seven row a b after later p q = (same-answer _ a b (p .answers) (q .answers), p .leaves ∙ sym (q .leaves))

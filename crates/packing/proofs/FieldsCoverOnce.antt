@@ -1,7 +1,7 @@
 -- The fields of sections 5 and 7 stand where document 01 has them and cover every octet once, whatever N and the bits are, and however long
 -- a section 7 alone is.
 -- Assumes nothing.
-use Prim.Native.Nat.{ℕ, _+_}
+use Prim.Native.Nat.{ℕ, _+_, _*_, _≤_, _<_}
 use native.Mathlib.Omega.{arith}
 use mathlib.Core.Path.{_≡_, refl, sym, _∙_}
 use mathlib.Core.List.{List}
@@ -33,3 +33,7 @@ covered₇alone rest s e = covered (fields₇alone rest) (octets₇alone rest) s
 
 pub covered₇ : (n bits : ℕ) (s : List ℕ) → length s ≡ 5 + packedOctets n bits → Covered (after 0 (fields₇ n bits)) (octets₇ n bits) s
 covered₇ n bits s e = covered₇alone (packedOctets n bits) s e
+
+-- N x bits / 8 rounded up: so many octets have all N x bits bits, and fewer than 8 bits beside them
+pub packed-rounded-up : (n bits : ℕ) → (n * bits ≤ 8 * packedOctets n bits) × (8 * packedOctets n bits < n * bits + 8)
+packed-rounded-up n bits = (omega arith, omega arith)

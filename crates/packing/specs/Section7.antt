@@ -29,7 +29,7 @@ fields₇ n bits = fields₇alone (packedOctets n bits)
 abbrev pub values₇ : List ℕ → List Value
 values₇ s = plain (beAt s 1 4) ∷ plain (beAt s 5 1) ∷ []
 
--- alone, without the N and the bits of a section 5, a section 7 knows 1 to 4 only
+-- alone, without the N and the bits of a section 5, a section 7 can be refused with 1 to 4 only
 unfoldable pub outcome₇alone : List ℕ → Outcome
 outcome₇alone s = firstOf 7 (headReasons 7 s) (read (values₇ s))
 

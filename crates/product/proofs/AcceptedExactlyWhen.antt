@@ -20,7 +20,7 @@ use Rattle.layout.proofs.Ranges.{between-in, in-between, test-differs, differs-
 use Rattle.product.specs.Blocks.{process, forecast, scaled, surface, common, interval}
 use Rattle.product.specs.Templates.{templateOf, frontEnd, partEnd, rangesEnd, total, rangesAt, membersAt, coordinatesAt, lackOfRanges, fieldsIn, totalIn, values₄}
 use Rattle.product.specs.Section4.{asTemplate, byTemplate, outcome₄}
-use Rattle.product.specs.Table.{CountAt, blank, octet, TemplateRow, templates₄, isTimed}
+use Rattle.product.specs.Table.{CountAt, noCount, atOctet, TemplateRow, templates₄, isTimed}
 use Rattle.product.specs.Accepted.{EndKept, IntervalKept, Follows₄}
 use Rattle.product.specs.declared.templates.PartKind.{PartKind}
 use Rattle.product.specs.declared.templates.Template.{Template}
@@ -69,7 +69,7 @@ module _ (end : ℕ) (s : List ℕ) where
 module _ (kind : PartKind) (s : List ℕ) where
   -- whether there is an interval or not, with n at its octet
   abbrev countAt : Bool → CountAt
-  countAt timed = cond timed (octet (partEnd kind + 8)) blank
+  countAt timed = cond timed (atOctet (partEnd kind + 8)) noCount
 
   interval-in : (timed : Bool) → cond timed (badPlace (after (partEnd kind) interval) s) 0 ≡ 0 → timed && eqb (rangesAt kind timed s) 0 ≡ false → IntervalKept (countAt timed) s
   unfolding rangesAt

@@ -1,14 +1,13 @@
 -- Any two answers that `read`'s contract allows for a section are one answer.
 -- Assumes nothing.
 use Prim.Native.Nat.{ℕ, zero, suc}
-use mathlib.Core.Path.{_≡_, refl, ap, sym, _∙_}
-use mathlib.Core.List.{List, _++_}
+use mathlib.Core.Path.{_≡_, refl, ap}
+use mathlib.Core.List.{List, [], _∷_, _++_}
 use lib.ListN.{drop, getD}
 use lib.IntN.{natAbs}
 use Rattle.layout.specs.Fields.{Value, none, missing, is, which, wholeIn, naturalIn}
-use Rattle.layout.specs.Outcomes.{Outcome, refused, read, refusal}
 use Rattle.layout.specs.Time.{timeIn}
-use Rattle.layout.proofs.Untold.{to32, back32, toSigned, backSigned, toTime, told-back}
+use Rattle.layout.proofs.Untold.{to32, back32, toSigned, backSigned, toTime, told-back, one-answer}
 use Rattle.product.specs.Blocks.{parameterIn, processIn, forecastIn, scaledIn, surfaceIn, ensembleIn, clusterIn, probabilityIn, aerosolIn, endIn, intervalIn, tagIn, aheadIn, behindIn, valuesIn}
 use Rattle.product.specs.Section4.{told, outcome₄}
 use Rattle.product.specs.declared.blocks.Process.{Process}
@@ -117,38 +116,22 @@ part-back (isCluster x) a b = refl
 part-back (isProbability x) a b = simp backSigned
 part-back (isAerosol x) a b = simp backSigned
 
--- how many values these are
+-- how many values these are, by the tag: of no part, an ensemble, a cluster, a probability, an aerosol
 unfoldable pub aheadCount : ℕ → ℕ
-aheadCount zero = 0
-aheadCount (suc zero) = 0
-aheadCount (suc (suc zero)) = 0
-aheadCount (suc (suc (suc zero))) = 0
-aheadCount (suc (suc (suc (suc n)))) = 6
+aheadCount t = getD (0 ∷ 0 ∷ 0 ∷ 0 ∷ 6 ∷ []) t 0
 
 unfoldable pub behindCount : ℕ → ℕ
-behindCount zero = 0
-behindCount (suc zero) = 3
-behindCount (suc (suc zero)) = 15
-behindCount (suc (suc (suc zero))) = 7
-behindCount (suc (suc (suc (suc n)))) = 0
+behindCount t = getD (0 ∷ 3 ∷ 15 ∷ 7 ∷ 0 ∷ []) t 0
 
-skip-ahead : (x : Part) (rest : List Value) → drop (aheadCount (tagIn x)) (aheadIn x ++ rest) ≡ rest
-unfolding aheadCount tagIn aheadIn aerosolIn scaledIn
-skip-ahead partNone rest = refl
-skip-ahead (isEnsemble x) rest = refl
-skip-ahead (isCluster x) rest = refl
-skip-ahead (isProbability x) rest = refl
-skip-ahead (isAerosol x) rest = refl
+skips : (x : Part) → ((rest : List Value) → drop (aheadCount (tagIn x)) (aheadIn x ++ rest) ≡ rest) × ((rest : List Value) → drop (behindCount (tagIn x)) (behindIn x ++ rest) ≡ rest)
+unfolding aheadCount behindCount tagIn aheadIn behindIn ensembleIn clusterIn probabilityIn aerosolIn scaledIn
+skips partNone = ((λ rest. refl), (λ rest. refl))
+skips (isEnsemble x) = ((λ rest. refl), (λ rest. refl))
+skips (isCluster x) = ((λ rest. refl), (λ rest. refl))
+skips (isProbability x) = ((λ rest. refl), (λ rest. refl))
+skips (isAerosol x) = ((λ rest. refl), (λ rest. refl))
 
-skip-behind : (x : Part) (rest : List Value) → drop (behindCount (tagIn x)) (behindIn x ++ rest) ≡ rest
-unfolding behindCount tagIn behindIn ensembleIn clusterIn probabilityIn scaledIn
-skip-behind partNone rest = refl
-skip-behind (isEnsemble x) rest = refl
-skip-behind (isCluster x) rest = refl
-skip-behind (isProbability x) rest = refl
-skip-behind (isAerosol x) rest = refl
-
--- ---- the answer that an outcome is of
+-- ---- the record that says these values
 
 unfoldable pub toProduct : List Value → Product
 toProduct vs =
@@ -172,21 +155,13 @@ toProduct vs =
 
 pub product-back : (x : Product) → toProduct (valuesIn x) ≡ x
 unfolding toProduct toProcess toSurface toScaled valuesIn parameterIn processIn forecastIn surfaceIn scaledIn
-product-back x = simp (skip-ahead, skip-behind, back32, backSigned, part-back, interval-back)
-
-untold : Outcome → Answer
-untold (refused n s p) = Refused (refusal n s p)
-untold (read vs) = Read (toProduct vs)
-
-back : (a : Answer) → untold (told a) ≡ a
-unfolding untold told
-back (Refused x) = refl
-back (Read x) = ap Read (product-back x)
-
-pub determined : (s : List ℕ) (a b : Answer) → told a ≡ outcome₄ s → told b ≡ outcome₄ s → a ≡ b
-determined s a b p q = told-back told untold back a b (p ∙ sym q)
+product-back x = simp (skips (x .part) .0, skips (x .part) .1, back32, backSigned, part-back, interval-back)
 
 -- so two records that say the same are one record
 pub same-record : (x y : Product) → valuesIn x ≡ valuesIn y → x ≡ y
+same-record = told-back valuesIn toProduct product-back
+
+-- and two answers that say the same are one answer
+pub determined : (s : List ℕ) (a b : Answer) → told a ≡ outcome₄ s → told b ≡ outcome₄ s → a ≡ b
 unfolding told
-same-record x y e = let r : Read x ≡ Read y = told-back told untold back (Read x) (Read y) (ap read e) in cc
+determined s = one-answer told Refused Read toProduct (elim [ Refused x ↦ refl | Read x ↦ ap Read (product-back x) ]) (outcome₄ s)

@@ -1,14 +1,13 @@
 -- The fields of each template of section 4 stand where document 01 has them by octet numbers, whatever n, Nc and NV are, and cover octets 1 to its
 -- total once.
 -- Assumes nothing.
-use Prim.Native.Nat.{ℕ, _+_}
-use native.Mathlib.Nat.{zero-add, add-zero}
+use Prim.Native.Nat.{ℕ}
 use mathlib.Core.Path.{_≡_, refl, sym, _∙_}
-use mathlib.Core.List.{List, [], _∷_, List·Memᴰ}
+use mathlib.Core.List.{List, List·Memᴰ}
 use Rattle.octets.specs.Octets.{beAt}
-use Rattle.layout.specs.Fields.{Field, held, said, shown, Run, run, placed, after, runs, Covered}
+use Rattle.layout.specs.Fields.{after, runs, Covered}
 use Rattle.layout.specs.Time.{time}
-use Rattle.layout.proofs.Blocks.{covered}
+use Rattle.layout.proofs.Blocks.{covered, runsFrom, runs-from}
 use Rattle.product.specs.Blocks.{head, parameter, process, forecast, scaled, surface, common, ensemble, cluster, probability, aerosol, interval}
 use Rattle.product.specs.Templates.{ahead, behind, front, timeRanges, lists, fields₄, rangesAt, fieldsIn}
 use Rattle.product.specs.Table.{TemplateRow, templates₄, countIn, isTimed, octets₄}
@@ -16,20 +15,6 @@ use Rattle.product.specs.Accepted.{Follows₄}
 use Rattle.product.proofs.FieldsByBlock.{total-is}
 use Rattle.product.proofs.TableAgrees.{each-row}
 use Rattle.product.proofs.AcceptedExactlyWhen.{follows-total}
-
--- the octets of fields one after the other, the first of them from octet `first` on
-abbrev runsFrom : ℕ → List Field → List Run
-runsFrom first [] = []
-runsFrom first (held w a m ∷ fs) = run first w ∷ runsFrom (first + w) fs
-runsFrom first (said v ∷ fs) = runsFrom first fs
-runsFrom first (shown w ∷ fs) = run first w ∷ runsFrom (first + w) fs
-
-runs-from : (k : ℕ) (fs : List Field) → runs (placed 0 k fs) ≡ runsFrom k fs
-unfolding runs placed
-runs-from k [] = refl
-runs-from k (held w a m ∷ fs) = λ i. run (zero-add k i) w ∷ runs-from (k + w) fs i
-runs-from k (said v ∷ fs) = rw add-zero (runs-from k fs)
-runs-from k (shown w ∷ fs) = λ i. run (zero-add k i) w ∷ runs-from (k + w) fs i
 
 -- every field of every template stands at its octets
 stand₄ : (row : TemplateRow) → List·Memᴰ row templates₄ → (s : List ℕ) → runs (after 0 (fieldsIn (row .part) (isTimed row) s)) ≡ octets₄ (row .number) (countIn (row .ranges) s) (countIn (row .members) s) (beAt s 6 2)

@@ -13,7 +13,7 @@ use Rattle.layout.specs.Time.{time}
 use Rattle.layout.proofs.Untold.{means32, meansSigned}
 use Rattle.product.specs.Blocks.{head, parameter, process, forecast, scaled, surface, common, ensemble, cluster, probability, aerosol, interval, valuesIn}
 use Rattle.product.specs.Templates.{ahead, behind, partTag, frontEnd, partEnd, values₄}
-use Rattle.product.specs.Table.{CountAt, blank, octet, TemplateRow, templates₄, isTimed}
+use Rattle.product.specs.Table.{CountAt, noCount, atOctet, TemplateRow, templates₄, isTimed}
 use Rattle.product.specs.Means.{MeansScaled, MeansSurface, MeansPart, none as means-none, ensemble as means-ensemble, cluster as means-cluster, probability as means-probability, aerosol as means-aerosol, MeansInterval, point, ends, Means₄}
 use Rattle.product.specs.declared.templates.PartKind.{PartKind}
 use Rattle.product.specs.declared.templates.PartKind.the-variants.{None as noPart, Ensemble, Cluster, Probability, Aerosol}
@@ -64,7 +64,7 @@ means-part Cluster s a b =
 means-part Probability s a b =
     means-probability _
     (record {
-      says-number = refl;
+      number = refl;
       probabilities = refl;
       kind = refl;
       lower = means-scaled 38 39 38 s _ refl refl;
@@ -80,7 +80,7 @@ means-part Aerosol s a b =
     })
 
 -- the end of the interval, which follows octet `end`: n stands 8 octets after it
-means-interval : (timed : Bool) (end : ℕ) (s : List ℕ) → MeansInterval s (cond timed (octet (end + 8)) blank) (toInterval (cond timed (valuesOf (after end interval) s) (none ∷ [])))
+means-interval : (timed : Bool) (end : ℕ) (s : List ℕ) → MeansInterval s (cond timed (atOctet (end + 8)) noCount) (toInterval (cond timed (valuesOf (after end interval) s) (none ∷ [])))
 unfolding toInterval valuesOf placed interval time
 means-interval true end s =
     let p = end + 8 in
@@ -100,21 +100,13 @@ means-interval true end s =
 means-interval false end s = point
 
 -- the values of a part are as many as its kind has
-skip-ahead : (kind : PartKind) (s : List ℕ) (rest : List Value) → drop (aheadCount (partTag kind)) (valuesOf (after 11 (ahead kind)) s ++ rest) ≡ rest
-unfolding aheadCount valuesOf placed ahead aerosol scaled
-skip-ahead noPart s rest = refl
-skip-ahead Ensemble s rest = refl
-skip-ahead Cluster s rest = refl
-skip-ahead Probability s rest = refl
-skip-ahead Aerosol s rest = refl
-
-skip-behind : (kind : PartKind) (s : List ℕ) (rest : List Value) → drop (behindCount (partTag kind)) (valuesOf (after (frontEnd kind + 23) (behind kind)) s ++ rest) ≡ rest
-unfolding behindCount valuesOf placed behind ensemble cluster probability scaled
-skip-behind noPart s rest = refl
-skip-behind Ensemble s rest = refl
-skip-behind Cluster s rest = refl
-skip-behind Probability s rest = refl
-skip-behind Aerosol s rest = refl
+skips : (kind : PartKind) (s : List ℕ) → ((rest : List Value) → drop (aheadCount (partTag kind)) (valuesOf (after 11 (ahead kind)) s ++ rest) ≡ rest) × ((rest : List Value) → drop (behindCount (partTag kind)) (valuesOf (after (frontEnd kind + 23) (behind kind)) s ++ rest) ≡ rest)
+unfolding aheadCount behindCount valuesOf placed ahead behind ensemble cluster probability aerosol scaled
+skips noPart s = ((λ rest. refl), (λ rest. refl))
+skips Ensemble s = ((λ rest. refl), (λ rest. refl))
+skips Cluster s = ((λ rest. refl), (λ rest. refl))
+skips Probability s = ((λ rest. refl), (λ rest. refl))
+skips Aerosol s = ((λ rest. refl), (λ rest. refl))
 
 -- ---- the record
 
@@ -143,7 +135,7 @@ module _ (row : TemplateRow) (m : List·Memᴰ row templates₄) (s : List ℕ) 
   means-blocks : Means₄ row (toProduct (valuesOf (after 0 head) s ++ (which (partTag (row .part)) ∷ (valuesOf (after 9 parameter) s ++ (valuesOf (after 11 (ahead (row .part))) s ++ (valuesOf (after end common) s ++ (valuesOf (after (end + 23) (behind (row .part))) s ++ end-values))))))) s
   unfolding toProduct toProcess valuesOf placed head parameter common process forecast surface scaled
   means-blocks =
-      rw (skip-ahead (row .part) s, skip-behind (row .part) s)
+      rw (skips (row .part) s .0, skips (row .part) s .1)
       (record {
         says-length = refl;
         says-number = refl;

@@ -11,7 +11,7 @@ use lib.Dec.{eqb}
 use borrow.Author.Tests.{eqb-true}
 use Rattle.octets.specs.Octets.{beAt}
 use Rattle.product.specs.Templates.{templateOf, frontEnd, partEnd, rangesEnd, total, rangesAt, membersAt, totalIn}
-use Rattle.product.specs.Table.{blank, octet, TemplateRow, templates₄, countIn, isTimed}
+use Rattle.product.specs.Table.{noCount, atOctet, TemplateRow, templates₄, countIn, isTimed}
 use Rattle.product.specs.declared.templates.PartKind.{PartKind}
 use Rattle.product.specs.declared.templates.Template.{Template}
 use Rattle.product.specs.declared.templates.Template.the-variants.{NotListed, Listed}
@@ -43,8 +43,8 @@ module _ (row : TemplateRow) (m : List·Memᴰ row templates₄) where
   table-process = each-row (λ r. frontEnd (r .part)) (λ r. 11 + r .moved) templates₄ refl row m
 
   -- where n stands, and so the end of the interval
-  pub table-count : row .ranges ≡ cond (isTimed row) (octet (partEnd (row .part) + 8)) blank
-  table-count = each-row (λ r. r .ranges) (λ r. cond (isTimed r) (octet (partEnd (r .part) + 8)) blank) templates₄ refl row m
+  pub table-count : row .ranges ≡ cond (isTimed row) (atOctet (partEnd (row .part) + 8)) noCount
+  table-count = each-row (λ r. r .ranges) (λ r. cond (isTimed r) (atOctet (partEnd (r .part) + 8)) noCount) templates₄ refl row m
 
   -- n and Nc
   pub table-ranges : (s : List ℕ) → rangesAt (row .part) (isTimed row) s ≡ countIn (row .ranges) s

@@ -21,7 +21,7 @@ use Rattle.layout.proofs.Spans.{octets-after, after-within}
 use Rattle.product.specs.Templates.{templateOf, partEnd, rangesEnd, total, rangesAt, membersAt, coordinatesAt, fieldsIn, totalIn}
 use Rattle.product.specs.Section4.{outcome₄}
 use Rattle.product.specs.Views.{templateRead, rangeBy, membersBy, coordinatesBy, rangeSpan, memberSpan, coordinateSpan, rangeOf, membersOf, coordinatesOf, firstStrung}
-use Rattle.product.specs.Table.{blank, octet, TemplateRow, countIn, isTimed}
+use Rattle.product.specs.Table.{noCount, atOctet, TemplateRow, countIn, isTimed}
 use Rattle.product.specs.Accepted.{Follows₄}
 use Rattle.product.specs.declared.templates.PartKind.{PartKind}
 use Rattle.product.specs.declared.templates.Template.{Template}
@@ -124,7 +124,7 @@ coordinates-within s = within-by (λ (t : Template). coordinatesBy t s) s refl (
 
 -- ---- where they stand, by octet numbers
 
-range-at : (kind : PartKind) (timed : Bool) (s : List ℕ) → length s ≡ totalIn kind timed s → (p : ℕ) → cond timed (octet (partEnd kind + 8)) blank ≡ octet p → (k : ℕ) → k < beAt s p 1 → rangeShown (Listed kind timed) s k ≡ part s (p + 5 + 12 * k) 12
+range-at : (kind : PartKind) (timed : Bool) (s : List ℕ) → length s ≡ totalIn kind timed s → (p : ℕ) → cond timed (atOctet (partEnd kind + 8)) noCount ≡ atOctet p → (k : ℕ) → k < beAt s p 1 → rangeShown (Listed kind timed) s k ≡ part s (p + 5 + 12 * k) 12
 unfolding rangeBy total rangesEnd rangesAt
 range-at kind true s l p e k h =
     let counted : partEnd kind + 8 ≡ p = cc in
@@ -134,7 +134,7 @@ range-at kind true s l p e k h =
 range-at kind false s l p e k h = let z : _≡_ {A = ℕ} 0 1 = cc in absurd (omega arith)
 
 -- if n stands at octet p, the ranges start at p + 5, and each has 12 octets
-pub range-stands : (row : TemplateRow) (s : List ℕ) → Follows₄ row s → (p : ℕ) → row .ranges ≡ octet p → (k : ℕ) → k < beAt s p 1 → rangeOf s k ≡ part s (p + 5 + 12 * k) 12
+pub range-stands : (row : TemplateRow) (s : List ℕ) → Follows₄ row s → (p : ℕ) → row .ranges ≡ atOctet p → (k : ℕ) → k < beAt s p 1 → rangeOf s k ≡ part s (p + 5 + 12 * k) 12
 range-stands row s f p e k h =
     rw (template-is row s f)
     (range-at (row .part) (isTimed row) s (follows-total row s f) p (sym (table-count row (f .listed)) ∙ e) k h)

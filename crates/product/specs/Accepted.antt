@@ -5,7 +5,7 @@ use mathlib.Core.Path.{_≡_}
 use mathlib.Core.List.{List, List·Memᴰ}
 use lib.ListN.{length}
 use Rattle.octets.specs.Octets.{beAt}
-use Rattle.product.specs.Table.{CountAt, blank, octet, TemplateRow, templates₄, countIn}
+use Rattle.product.specs.Table.{CountAt, noCount, atOctet, TemplateRow, templates₄, countIn}
 
 -- if n stands at octet p, the end of the interval is p-7 to p-1; n is not 0
 pub record EndKept (p : ℕ) (s : List ℕ) : Type 0 where
@@ -19,8 +19,8 @@ pub record EndKept (p : ℕ) (s : List ℕ) : Type 0 where
 
 -- where the template has time ranges
 abbrev pub IntervalKept : CountAt → List ℕ → Type 0
-IntervalKept blank s = Unit {0}
-IntervalKept (octet p) s = EndKept p s
+IntervalKept noCount s = Unit {0}
+IntervalKept (atOctet p) s = EndKept p s
 
 -- the template is one of document 01's table
 pub record Follows₄ (row : TemplateRow) (s : List ℕ) : Type 0 where

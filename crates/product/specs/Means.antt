@@ -6,7 +6,7 @@ use mathlib.Core.List.{List}
 use Rattle.octets.specs.Octets.{beAt, signOf}
 use Rattle.layout.specs.Missing.{unlessMissing, signedUnlessMissing}
 use Rattle.layout.specs.Time.{MeansTime}
-use Rattle.product.specs.Table.{CountAt, blank, octet, TemplateRow}
+use Rattle.product.specs.Table.{CountAt, noCount, atOctet, TemplateRow}
 use Rattle.product.specs.declared.templates.PartKind.{PartKind}
 use Rattle.product.specs.declared.templates.PartKind.the-variants.{None as noPart, Ensemble, Cluster, Probability, Aerosol}
 use Rattle.product.specs.declared.blocks.Scaled.{Scaled}
@@ -57,7 +57,7 @@ pub record MeansCluster (x : ClusterPart) (s : List ℕ) : Type 0 where
   pub distance : x .distance ≡ beAt s 61 4
 
 pub record MeansProbability (x : ProbabilityPart) (s : List ℕ) : Type 0 where
-  pub says-number : x .number ≡ beAt s 35 1
+  pub number : x .number ≡ beAt s 35 1
   pub probabilities : x .probabilities ≡ beAt s 36 1
   pub kind : x .kind ≡ beAt s 37 1
   pub lower : MeansScaled (x .lower) 38 s
@@ -88,8 +88,8 @@ pub record MeansEnd (x : IntervalEnd) (p : ℕ) (s : List ℕ) : Type 0 where
 
 -- there is one exactly where the template has time ranges
 pub data MeansInterval (s : List ℕ) : CountAt → Interval → Type 0 where
-  point : MeansInterval s blank noInterval
-  ends : (p : ℕ) (x : IntervalEnd) → MeansEnd x p s → MeansInterval s (octet p) (Ends x)
+  point : MeansInterval s noCount noInterval
+  ends : (p : ℕ) (x : IntervalEnd) → MeansEnd x p s → MeansInterval s (atOctet p) (Ends x)
 
 -- ---- the record
 

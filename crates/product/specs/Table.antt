@@ -11,10 +11,10 @@ use Rattle.product.specs.declared.templates.PartKind.the-variants.{None 
 
 -- ---- the table
 
--- where n or Nc stands: at an octet, or blank, where the template has no such count
+-- where n or Nc stands: at an octet; or the template has no such count, where the table is blank
 pub data CountAt : Type 0 where
-  blank : CountAt
-  octet : ℕ → CountAt
+  noCount : CountAt
+  atOctet : ℕ → CountAt
 
 -- a template: its number; the part that a record of it carries; by how many octets a part that stands ahead of the generating process moves
 -- what follows; the octets before the coordinate values, but for time ranges and members; where n stands, and where Nc
@@ -33,26 +33,26 @@ template number part moved octets ranges members =
 -- number, part, moved, octets, n at, Nc at
 abbrev pub templates₄ : List TemplateRow
 templates₄ =
-    template 0 noPart 0 34 blank blank
-    ∷ template 1 Ensemble 0 37 blank blank
-    ∷ template 4 Cluster 0 64 blank (octet 54)
-    ∷ template 5 Probability 0 47 blank blank
-    ∷ template 8 noPart 0 46 (octet 42) blank
-    ∷ template 9 Probability 0 59 (octet 55) blank
-    ∷ template 11 Ensemble 0 49 (octet 45) blank
-    ∷ template 14 Cluster 0 76 (octet 72) (octet 54)
-    ∷ template 46 Aerosol 13 59 (octet 55) blank
+    template 0 noPart 0 34 noCount noCount
+    ∷ template 1 Ensemble 0 37 noCount noCount
+    ∷ template 4 Cluster 0 64 noCount (atOctet 54)
+    ∷ template 5 Probability 0 47 noCount noCount
+    ∷ template 8 noPart 0 46 (atOctet 42) noCount
+    ∷ template 9 Probability 0 59 (atOctet 55) noCount
+    ∷ template 11 Ensemble 0 49 (atOctet 45) noCount
+    ∷ template 14 Cluster 0 76 (atOctet 72) (atOctet 54)
+    ∷ template 46 Aerosol 13 59 (atOctet 55) noCount
     ∷ []
 
 -- the count that stands there in a section; 0 where the template has none
 abbrev pub countIn : CountAt → List ℕ → ℕ
-countIn blank s = 0
-countIn (octet p) s = beAt s p 1
+countIn noCount s = 0
+countIn (atOctet p) s = beAt s p 1
 
 -- a template with time ranges speaks of an interval, the others of a point in time
 abbrev pub hasCount : CountAt → Bool
-hasCount blank = false
-hasCount (octet p) = true
+hasCount noCount = false
+hasCount (atOctet p) = true
 
 abbrev pub isTimed : TemplateRow → Bool
 isTimed row = hasCount (row .ranges)

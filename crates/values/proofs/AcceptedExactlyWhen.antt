@@ -62,7 +62,7 @@ pub follows-accepted : (section : ℕ) (s : List ℕ) (f : FollowsNumbered secti
 unfolding sectionOutcome valuesNumbered
 follows-accepted section s (section-1 e template f) = ap (λ (n : ℕ). sectionOutcome n s) e ∙ accepted₁ template s f
 follows-accepted section s (section-3 e template f) = ap (λ (n : ℕ). sectionOutcome n s) e ∙ accepted₃ template s f
-follows-accepted section s (section-4 e template f) = ap (λ (n : ℕ). sectionOutcome n s) e ∙ accepted₄ template s f
+follows-accepted section s (section-4 e row f) = ap (λ (n : ℕ). sectionOutcome n s) e ∙ accepted₄ row s f
 follows-accepted section s (section-5 e f) = ap (λ (n : ℕ). sectionOutcome n s) e ∙ follows-accepted₅ s f
 follows-accepted section s (section-7 e f) = ap (λ (n : ℕ). sectionOutcome n s) e ∙ follows-accepted₇alone s f
 

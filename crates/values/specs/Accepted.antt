@@ -23,7 +23,7 @@ use Rattle.packing.specs.Accepted.{Follows₅, Follows₇alone}
 pub data FollowsNumbered (section : ℕ) (s : List ℕ) : Type 0 where
   section-1 : section ≡ 1 → (template : Template₁) → Follows₁ template s → FollowsNumbered section s
   section-3 : section ≡ 3 → (template : Template₃) → Follows₃ template s → FollowsNumbered section s
-  section-4 : section ≡ 4 → (template : TemplateRow) → Follows₄ template s → FollowsNumbered section s
+  section-4 : section ≡ 4 → (row : TemplateRow) → Follows₄ row s → FollowsNumbered section s
   section-5 : section ≡ 5 → Follows₅ s → FollowsNumbered section s
   section-7 : section ≡ 7 → Follows₇alone s → FollowsNumbered section s
 
@@ -31,7 +31,7 @@ pub data FollowsNumbered (section : ℕ) (s : List ℕ) : Type 0 where
 unfoldable pub valuesNumbered : (section : ℕ) (s : List ℕ) → FollowsNumbered section s → List Value
 valuesNumbered section s (section-1 e template f) = values₁ template s
 valuesNumbered section s (section-3 e template f) = values₃ template s
-valuesNumbered section s (section-4 e template f) = values₄ (template .part) (isTimed template) s
+valuesNumbered section s (section-4 e row f) = values₄ (row .part) (isTimed row) s
 valuesNumbered section s (section-5 e f) = valuesOf (after 0 fields₅) s
 valuesNumbered section s (section-7 e f) = values₇ s
 
