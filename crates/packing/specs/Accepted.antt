@@ -8,7 +8,7 @@ use Rattle.octets.specs.Octets.{beAt}
 use Rattle.layout.specs.Fields.{Run, run}
 use Rattle.packing.specs.Section7.{packedOctets}
 
--- the octets of each field by their numbers: 1-4, 5, 6-9, 10-11, 12-15, 16-17, 18-19, 20, 21
+-- the octets of each field by their numbers: length, number, N, template, R, E, D, bits per value, type
 abbrev pub octets₅ : List Run
 octets₅ = run 1 4 ∷ run 5 1 ∷ run 6 4 ∷ run 10 2 ∷ run 12 4 ∷ run 16 2 ∷ run 18 2 ∷ run 20 1 ∷ run 21 1 ∷ []
 
