@@ -8,3 +8,4 @@ pub mod Widths
 pub mod Entries
 pub mod RefusalNumbers
 pub mod MeansByName
+pub mod WithoutTwelve
