@@ -19,8 +19,9 @@
 #error "skogmund needs a size_t of 64 bits"
 #endif
 
-/* The version of what is declared here: the first number rises where an entry or a name that was there changes, the second where one is new. */
-#define SKOGMUND_VERSION_MAJOR 1
+/* The version of what is declared here: the first number rises where an entry or a name that was there changes or goes, the second where one
+   is new. */
+#define SKOGMUND_VERSION_MAJOR 2
 #define SKOGMUND_VERSION_MINOR 0
 #define SKOGMUND_VERSION (SKOGMUND_VERSION_MAJOR * 1000 + SKOGMUND_VERSION_MINOR)
 
@@ -32,7 +33,7 @@
 #define SKOGMUND_SECTION(refusal) ((unsigned)((uint64_t)(refusal) >> 32 & 255))
 #define SKOGMUND_PLACE(refusal) ((unsigned)((uint64_t)(refusal) & 0xffffffff))
 
-/* The numbers. */
+/* The numbers; there are no others. */
 #define SKOGMUND_REFUSED_UNDER_5 1        /* under 5 octets */
 #define SKOGMUND_REFUSED_TOO_LONG 2       /* a section or a queue above 65,536 octets */
 #define SKOGMUND_REFUSED_LENGTH 3         /* octets 1-4 are not the lent length */
@@ -44,7 +45,6 @@
 #define SKOGMUND_REFUSED_NO_RANGE 9       /* no time range: n is 0 */
 #define SKOGMUND_REFUSED_WIDTH 10         /* section 3's width, Ni, Nj, Di, Dj and octet 12 disagree */
 #define SKOGMUND_REFUSED_TOTAL 11         /* the length is not the total */
-#define SKOGMUND_REFUSED_OVERFLOW 12      /* Ni x Nj above 64 bits */
 #define SKOGMUND_REFUSED_POINTS 13        /* the number of points is not Ni x Nj, or the list's sum */
 #define SKOGMUND_REFUSED_VALUES 14        /* section 5's N is not section 3's number of points */
 #define SKOGMUND_REFUSED_DATA 15          /* section 7's length is not the one that N and the bits give */

@@ -7,3 +7,4 @@ pub mod WrongPrograms
 pub mod ShelvesAsOctets
 pub mod ShelvesForC
 pub mod NumbersForC
+pub mod Twelve

@@ -2,3 +2,4 @@ pub mod Starred
 pub mod Accepted
 pub mod Histories
 pub mod NumbersForC
+pub mod Tables

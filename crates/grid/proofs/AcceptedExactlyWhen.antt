@@ -1,7 +1,7 @@
 -- A section 3 is accepted exactly when it follows a template and keeps the value rules; what is read out are then the values
 -- of that template's fields.
 -- Assumes nothing.
-use Prim.Native.Nat.{ℕ, zero, suc, _*_, _^_, _≤_}
+use Prim.Native.Nat.{ℕ, zero, suc, _*_, _≤_}
 use native.Mathlib.Nat.{zero-mul}
 use native.Mathlib.Omega.{arith}
 use mathlib.Core.Path.{_≡_, refl, ap, sym, _∙_}
@@ -9,8 +9,8 @@ use mathlib.Core.Logic.{_↔_, _⊎_, inl, inr}
 use mathlib.Core.List.{List, [], _∷_}
 use mathlib.Core.Bool.{Bool, true, false, cond, _&&_, _||_, or-true}
 use lib.ListN.{length}
-use lib.Dec.{ltb, leb, eqb}
-use borrow.Author.Tests.{le-ltb, ltb-false, eq-eqb, ne-eqb, eqb-true, lt-leb, leb-false, not-false}
+use lib.Dec.{ltb, eqb}
+use borrow.Author.Tests.{le-ltb, ltb-false, eq-eqb, ne-eqb, eqb-true, not-false}
 use Rattle.octets.specs.Octets.{beAt}
 use Rattle.layout.specs.Fields.{Value, between, after, placed, badPlace, AllAllowed}
 use Rattle.layout.specs.Outcomes.{read, reason}
@@ -20,7 +20,7 @@ use Rattle.layout.proofs.Ranges.{both-hold, either-holds, between-in, in-betwee
 use Rattle.grid.specs.Blocks.{hasList, gridHead, counts, corners, pole, poles}
 use Rattle.grid.specs.Templates.{fields₃, baseEnd, listWidth, interpretation, ni, nj, listCount, listOctets, total, values₃, templateNumbered, templateNamed}
 use Rattle.grid.specs.Agreement.{missingWith, agreedWithoutList, agreedWithList, agreed, disagreement}
-use Rattle.grid.specs.Points.{sumOf, pointsOf, productAbove, pointsReasons}
+use Rattle.grid.specs.Points.{sumOf, pointsOf, pointsReasons}
 use Rattle.grid.specs.Section3.{asTemplate, outcome₃}
 use Rattle.grid.specs.Accepted.{numberOf, Missing, Present, PolesPresent, NoList, AList, Follows₃}
 use Rattle.grid.specs.declared.templates.Template.{Template}
@@ -96,10 +96,6 @@ module _ (template : Template) (s : List ℕ) (width : listWidth s ≡ 0) where
   unfolding pointsOf
   points-without = rw width
 
-  product-without : productAbove s ≡ leb (2 ^ 64) (ni s * nj s)
-  unfolding productAbove
-  product-without = rw width
-
 module _ (template : Template) (s : List ℕ) (width : hasList (listWidth s) ≡ true) where
   count-i : Missing 31 s → listCount s ≡ nj s
   unfolding listCount
@@ -113,17 +109,13 @@ module _ (template : Template) (s : List ℕ) (width : hasList (listWidth s) ≡
   unfolding pointsOf
   points-listed = simp (listed-not-0 _ width)
 
-  product-listed : productAbove s ≡ false
-  unfolding productAbove
-  product-listed = simp (listed-not-0 _ width)
-
 -- ---- accepted, so it follows
 
--- the reasons 10 to 13 in plain words
+-- the reasons 10, 11 and 13 in plain words
 module _ (template : Template) (s : List ℕ) (whole : length s ≡ total template s) (points : beAt s 7 4 ≡ pointsOf template s) where
-  no-list-follows : listWidth s ≡ 0 → agreedWithoutList s ≡ true → productAbove s ≡ false → NoList template s
+  no-list-follows : listWidth s ≡ 0 → agreedWithoutList s ≡ true → NoList template s
   unfolding agreedWithoutList
-  no-list-follows w e p =
+  no-list-follows w e =
       let agree = both-hold _ _ e in
       let present = both-hold _ _ (agree .1) in
       record {
@@ -132,7 +124,6 @@ module _ (template : Template) (s : List ℕ) (whole : length s ≡ total templa
         ni = test-differs _ _ (present .0);
         nj = test-differs _ _ (present .1);
         whole = whole ∙ total-without template s w;
-        fits = leb-false _ _ (sym (product-without template s w) ∙ p);
         points = points ∙ points-without template s w;
       }
 
@@ -147,9 +138,9 @@ module _ (template : Template) (s : List ℕ) (whole : length s ≡ total templa
     points = rw n at (points ∙ points-listed template s w);
   }
 
-  fitting-follows : agreed s ≡ true → productAbove s ≡ false → NoList template s ⊎ (AList 31 64 35 template s ⊎ AList 35 68 31 template s)
+  fitting-follows : agreed s ≡ true → NoList template s ⊎ (AList 31 64 35 template s ⊎ AList 35 68 31 template s)
   unfolding agreed agreedWithList
-  fitting-follows e p = by-width (eqb (listWidth s) 0) refl e
+  fitting-follows e = by-width (eqb (listWidth s) 0) refl e
     where
       with-list : hasList (listWidth s) ≡ true → between 1 2 (interpretation s) ≡ true → (missingWith 31 64 35 s ≡ true) ⊎ (missingWith 35 68 31 s ≡ true) → AList 31 64 35 template s ⊎ AList 35 68 31 template s
       with-list w i (inl h) =
@@ -160,7 +151,7 @@ module _ (template : Template) (s : List ℕ) (whole : length s ≡ total templa
           inr (list-follows 35 68 31 w i m (count-j template s w (m .2)))
 
       by-width : (t : Bool) → eqb (listWidth s) 0 ≡ t → cond t (agreedWithoutList s) (hasList (listWidth s) && agreedWithList s) ≡ true → NoList template s ⊎ (AList 31 64 35 template s ⊎ AList 35 68 31 template s)
-      by-width true h e = inl (no-list-follows (eqb-true _ _ h) e p)
+      by-width true h e = inl (no-list-follows (eqb-true _ _ h) e)
       by-width false h e =
           let agree = both-hold _ _ e in
           let rest = both-hold _ _ (agree .1) in
@@ -191,20 +182,19 @@ accepted-follows s vs e =
         la2 = test-differs _ _ (block .2 .1 .1 .1 .0);
         lo2 = test-differs _ _ (block .2 .1 .1 .1 .1 .0);
         poles = poles-in template s (block .3);
-        list = fitting-follows template s (fits .0 .whole) (test-same _ _ (points .0 .1 .0)) (not-false _ (test-unmet 9 _ (fits .0 .own-kept))) (points .0 .0);
+        list = fitting-follows template s (fits .0 .whole) (test-same _ _ (points .0 .0)) (not-false _ (test-unmet 9 _ (fits .0 .own-kept)));
       },
       cc,
     )
 
 -- ---- it follows, so it is accepted
 
--- none of the reasons 10 to 13, and octets 11 and 12 are in their ranges
+-- none of the reasons 10, 11 and 13, and octets 11 and 12 are in their ranges
 pub record FitTogether (template : Template) (s : List ℕ) : Type 0 where
   pub width : (eqb (listWidth s) 0 || hasList (listWidth s)) ≡ true
   pub interpretation : beAt s 12 1 ≤ 2
   pub agree : agreed s ≡ true
   pub whole : length s ≡ total template s
-  pub product : productAbove s ≡ false
   pub points : beAt s 7 4 ≡ pointsOf template s
 
 no-list-fits : (template : Template) (s : List ℕ) → NoList template s → FitTogether template s
@@ -215,7 +205,6 @@ no-list-fits template s f = record {
   agree =
       simp (f .width, f .interpretation, ne-eqb _ _ (f .ni), ne-eqb _ _ (f .nj));
   whole = f .whole ∙ sym (total-without template s (f .width));
-  product = product-without template s (f .width) ∙ lt-leb _ _ (f .fits);
   points = f .points ∙ sym (points-without template s (f .width));
 }
 
@@ -228,7 +217,6 @@ list-fits absent increment counted template s m n f =
       interpretation = f .interpretation .1;
       agree = simp (listed-not-0 _ w, w, in-between 1 2 _ (f .interpretation), m);
       whole = rw n (f .whole);
-      product = product-listed template s w;
       points = f .points ∙ sym (points-listed template s w ∙ ap (sumOf (baseEnd template) (listWidth s) s) n);
     }
 
@@ -260,7 +248,7 @@ follows-accepted template s f =
     ∙ listed
     ∙ ap (λ (t : Template). asTemplate t s) (names-it template s f)
     ∙ template-last 3 s _ _ _ _ _ fits
-    ∙ none-last 3 (pointsReasons template s) (read (values₃ template s)) (fit .product, (same-test _ _ (fit .points), tt))
+    ∙ none-last 3 (pointsReasons template s) (read (values₃ template s)) (same-test _ _ (fit .points), tt)
 
 pub accepted-exactly-when : (s : List ℕ) → ((vs : List Value) × (outcome₃ s ≡ read vs)) ↔ ((template : Template) × Follows₃ template s)
 accepted-exactly-when s = (

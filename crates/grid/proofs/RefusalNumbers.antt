@@ -12,7 +12,7 @@ use Rattle.layout.specs.Outcomes.{read, firstOf}
 use Rattle.layout.specs.Refusals.{oneOf, hasPlace, Listed}
 use Rattle.layout.specs.declared.Refusal.{Refusal}
 use Rattle.layout.proofs.Outcomes.{either}
-use Rattle.layout.proofs.Refusals.{Refuses, refusal-listed, placeless, AllListed, first-refuses, reason-refuses, opening-refuses, template-refuses, below, bad-below}
+use Rattle.layout.proofs.Refusals.{Refuses, refusal-listed, reason-refuses, opening-refuses, template-refuses, below, bad-below}
 use Rattle.grid.specs.Blocks.{gridHead, earthSize, earth, counts, corners, common, pole, poles}
 use Rattle.grid.specs.Templates.{templateNamed, baseEnd, fields₃, total, values₃}
 use Rattle.grid.specs.Agreement.{agreed, disagreement}
@@ -32,10 +32,7 @@ bad₃ Stretched n s = bad-below _ _ s refl
 bad₃ StretchedAndRotated n s = bad-below _ _ s refl
 
 by-points : (template : Template) (s : List ℕ) → Refuses table₃ (firstOf 3 (pointsReasons template s) (read (values₃ template s)))
-unfolding AllListed
-by-points template s =
-    first-refuses table₃ 3 (pointsReasons template s) (read (values₃ template s))
-    ((λ h. placeless table₃ 12 3 refl refl), (λ h. ((λ h. placeless table₃ 13 3 refl refl), (λ h. tt)))) (λ none. tt)
+by-points template s = reason-refuses table₃ 3 _ _ (read (values₃ template s)) refl refl tt
 
 as-template : (template : Template) (s : List ℕ) → length s ≤ 65536 → Refuses table₃ (asTemplate template s)
 unfolding asTemplate

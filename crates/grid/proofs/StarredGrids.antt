@@ -8,11 +8,11 @@ use Rattle.layout.specs.Examples.{AllAgree}
 use Rattle.grid.specs.Blocks.{hasList, gridHead, earthSize, earth, counts, corners, common, poles}
 use Rattle.grid.specs.Templates.{fields₃, listCount, values₃, templateNumbered}
 use Rattle.grid.specs.Agreement.{missingWith, agreedWithoutList, agreedWithList, agreed}
-use Rattle.grid.specs.Points.{sumOf, pointsOf, productAbove}
+use Rattle.grid.specs.Points.{sumOf, pointsOf}
 use Rattle.grid.specs.Section3.{asTemplate, outcome₃}
 use Rattle.grid.specs.Views.{listSpan}
 use Rattle.grid.specs.Examples.{exampleSection, starredGrids}
 
 pub grids-agree : AllAgree starredGrids
-unfolding AllAgree exampleSection digits part be beAt signOf between placed valuesOf lowestBad firstOf ifRead openingReasons totalReasons fittingReasons templateReasons hasList gridHead earthSize earth counts corners common poles fields₃ missingWith agreedWithoutList agreedWithList agreed listCount sumOf pointsOf productAbove values₃ asTemplate templateNumbered outcome₃ listSpan
+unfolding AllAgree exampleSection digits part be beAt signOf between placed valuesOf lowestBad firstOf ifRead openingReasons totalReasons fittingReasons templateReasons hasList gridHead earthSize earth counts corners common poles fields₃ missingWith agreedWithoutList agreedWithList agreed listCount sumOf pointsOf values₃ asTemplate templateNumbered outcome₃ listSpan
 grids-agree = (refl, (refl, tt))

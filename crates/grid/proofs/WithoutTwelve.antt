@@ -1,19 +1,24 @@
--- Refusal 12 never comes: Ni x Nj of a section of octets is below 2^64, so the outcome is the same without it.
+-- Nothing changed when refusal 12 was taken out: Ni x Nj of a section of octets is below 2^64, so the outcome with 12 and the outcome without it
+-- are the same. (`specs/Twelve.antt` has what 12 was.)
 -- Assumes nothing.
 use Prim.Native.Nat.{ℕ, _*_, _^_, _<_}
 use mathlib.Core.Path.{_≡_, refl}
-use mathlib.Core.Bool.{Bool, true, false, not, cond, _&&_}
-use mathlib.Core.List.{List, [], _∷_}
+use mathlib.Core.Bool.{Bool, true, false, _&&_}
+use mathlib.Core.List.{List}
 use lib.Dec.{eqb, leb}
 use borrow.Author.Tests.{lt-leb}
-use Rattle.octets.specs.Octets.{AllOctets, beAt}
+use Rattle.octets.specs.Octets.{AllOctets, part, be, beAt, digits}
 use Rattle.octets.proofs.Laws.{beAt-below, product-below}
-use Rattle.layout.specs.Outcomes.{read, reason, firstOf}
-use Rattle.grid.specs.Templates.{listWidth, ni, nj, values₃}
-use Rattle.grid.specs.Points.{pointsOf, pointsReasons, productAbove}
-use Rattle.grid.specs.declared.templates.Template.{Template}
+use Rattle.layout.specs.Fields.{between, placed, lowestBad}
+use Rattle.layout.specs.Outcomes.{refused, firstOf, openingReasons, totalReasons, fittingReasons, templateReasons}
+use Rattle.grid.specs.Blocks.{gridHead, earthSize, earth, counts, corners, common, poles}
+use Rattle.grid.specs.Templates.{listWidth, ni, nj, fields₃, listCount, templateNumbered}
+use Rattle.grid.specs.Agreement.{agreedWithoutList, agreed}
+use Rattle.grid.specs.Points.{pointsOf}
+use Rattle.grid.specs.Section3.{asTemplate, outcome₃}
+use Rattle.grid.specs.Twelve.{productAbove, asTemplateWithTwelve, outcomeWithTwelve, numbersNoOctets}
 
--- each is four octets, also where it is all ones
+-- two numbers of four octets, also where one is all ones
 pub product-below-64-bits : (s : List ℕ) → AllOctets s → beAt s 31 4 * beAt s 35 4 < 2 ^ 64
 product-below-64-bits s o = product-below 32 32 (beAt s 31 4) (beAt s 35 4) (beAt-below s 31 4 o) (beAt-below s 35 4 o)
 
@@ -25,8 +30,11 @@ never-above s o = by-width (eqb (listWidth s) 0)
     by-width true = lt-leb _ _ (product-below-64-bits s o)
     by-width false = refl
 
--- so of the points only 13 decides
-pub points-without : (template : Template) (s : List ℕ) → AllOctets s
-    → firstOf 3 (pointsReasons template s) (read (values₃ template s)) ≡ firstOf 3 (reason 13 (not (eqb (beAt s 7 4) (pointsOf template s))) ∷ []) (read (values₃ template s))
-unfolding firstOf
-points-without template s o = rw (never-above s o)
+pub same-without-twelve : (s : List ℕ) → AllOctets s → outcomeWithTwelve s ≡ outcome₃ s
+unfolding outcomeWithTwelve asTemplateWithTwelve outcome₃ asTemplate firstOf
+same-without-twelve s o = rw (never-above s o)
+
+-- of numbers that are no octets the two differ: what was taken out is in the one, and not in the other
+pub octets-needed : (outcomeWithTwelve numbersNoOctets ≡ refused 12 3 0) × (outcome₃ numbersNoOctets ≡ refused 13 3 0)
+unfolding numbersNoOctets digits part be beAt between placed lowestBad firstOf openingReasons totalReasons fittingReasons templateReasons gridHead earthSize earth counts corners common poles fields₃ agreedWithoutList agreed listCount pointsOf templateNumbered asTemplate outcome₃ productAbove asTemplateWithTwelve outcomeWithTwelve
+octets-needed = (refl, refl)

@@ -1,9 +1,9 @@
--- 12 and 13: the points are Ni x Nj, or the sum of the list.
+-- 13: the points are Ni x Nj, or the sum of the list.
 -- Assumes nothing.
-use Prim.Native.Nat.{ℕ, zero, suc, _+_, _*_, _^_}
+use Prim.Native.Nat.{ℕ, zero, suc, _+_, _*_}
 use mathlib.Core.List.{List, [], _∷_}
-use mathlib.Core.Bool.{Bool, not, cond, _&&_}
-use lib.Dec.{leb, eqb}
+use mathlib.Core.Bool.{not, cond}
+use lib.Dec.{eqb}
 use Rattle.octets.specs.Octets.{beAt}
 use Rattle.layout.specs.Outcomes.{Reason, reason}
 use Rattle.grid.specs.Templates.{baseEnd, listWidth, ni, nj, listCount}
@@ -18,12 +18,5 @@ sumOf end width s (suc n) = sumOf end width s n + beAt s (end + 1 + width * n) w
 unfoldable pub pointsOf : Template → List ℕ → ℕ
 pointsOf template s = cond (eqb (listWidth s) 0) (ni s * nj s) (sumOf (baseEnd template) (listWidth s) s (listCount s))
 
--- 12: without a list, Ni x Nj does not fit into 64 bits
-unfoldable pub productAbove : List ℕ → Bool
-productAbove s = eqb (listWidth s) 0 && leb (2 ^ 64) (ni s * nj s)
-
 abbrev pub pointsReasons : Template → List ℕ → List Reason
-pointsReasons template s =
-    reason 12 (productAbove s)
-    ∷ reason 13 (not (eqb (beAt s 7 4) (pointsOf template s)))
-    ∷ []
+pointsReasons template s = reason 13 (not (eqb (beAt s 7 4) (pointsOf template s))) ∷ []

@@ -1,46 +1,27 @@
-// 12 and 13: the points are Ni x Nj, or the sum of the list.
+// 13: the points are Ni x Nj, or the sum of the list.
 ghost use mathlib.Core.Path.{_≡_};
 ghost use mathlib.Core.Bool.{true};
 ghost use Rattle.octets.specs.Octets.{beAt};
 ghost use Rattle.layout.specs.Outcomes.{firstRefusal};
 ghost use Rattle.grid.specs.Blocks.{hasList};
 ghost use Rattle.grid.specs.Agreement.{agreed};
-ghost use Rattle.grid.specs.Points.{productAbove, sumOf, pointsOf, pointsReasons};
+ghost use Rattle.grid.specs.Points.{sumOf, pointsOf, pointsReasons};
 use crate::templates::Template;
 use crate::templates::base_end;
 use crate::templates::list_count;
 use layout::Refusal;
 
-// The first of them that is met, of numbers that agree; what it answers of others is of no use: they are refused before.
+// 13 if it is met, of numbers that agree; what it answers of others is of no use: they are refused before.
 pub(crate) fn points_refusal(section: &[u8], template: Template) -> Refusal
     ensures { λ r. ⌜ (agreed (now (section .entry)) ≡ true → r ≡ firstRefusal 3 (pointsReasons template (now (section .entry)))) ⌝ }
 {
-    if product_above(section) {
-        return Refusal::of(12, 3);
-    }
     if octets::u32_at(section, 7) as u64 != points_of(section, template) {
         return Refusal::of(13, 3);
     }
     Refusal::none()
 }
 
-// Whether there is no list and Ni x Nj is above 64 bits: then Nj is more than the largest number divided by Ni.
-fn product_above(section: &[u8]) -> bool
-    ensures { λ r. ⌜ r ≡ productAbove (now (section .entry)) ⌝ }
-{
-    if octets::u8_at(section, 11) != 0 {
-        return false;
-    }
-    let ni = octets::u32_at(section, 31);
-    let nj = octets::u32_at(section, 35);
-    if ni == 0 {
-        return false;
-    }
-    let most = 0xffff_ffff_ffff_ffff / (ni as u64);
-    most < (nj as u64)
-}
-
-// Ni x Nj, or the sum of the list.
+// Ni x Nj, which of two numbers of 32 bits is below 2^64, or the sum of the list.
 fn points_of(section: &[u8], template: Template) -> u64
     ensures { λ r. ⌜ (agreed (now (section .entry)) ≡ true → r ≡ pointsOf template (now (section .entry))) ⌝ }
 {

@@ -25,7 +25,7 @@ then-agreed bad own total s x p e q = not-false _ (test-unmet 9 _ (sym q ∙ non
 -- what a reader goes by for the points: the refusal that it is told of them, and its number
 by-points : (template : Template) (s : List ℕ) (x : Refusal) → x ≡ firstRefusal 3 (pointsReasons template s) → firstOf 3 (pointsReasons template s) (read (values₃ template s)) ≡ cond (eqb (x .number) 0) (read (values₃ template s)) (refusedBy x)
 unfolding Numbered
-by-points template s x p = rw p (by-refusal 3 (pointsReasons template s) (read (values₃ template s)) ((λ h. refl), ((λ h. refl), tt)))
+by-points template s x p = rw p (by-refusal 3 (pointsReasons template s) (read (values₃ template s)) ((λ h. refl), tt))
 
 returns : tie.Need-returns
 unfolding told asTemplate

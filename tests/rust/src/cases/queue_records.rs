@@ -187,8 +187,8 @@ fn refusals_of_fields(cases: &mut Queues) {
     cases.stated("calendar 0 is no refusal", queue, "\nkept 2 ");
 }
 
-/// No record has refusals 1, 2, 3 or 12: a section of under 5 octets, or of another length than its own octets say, makes a body that is
-/// refused with 20; a longer one than 65,536 octets makes a queue that is refused with 2; Ni x Nj never has more than 64 bits.
+/// No record has refusals 1, 2 or 3: a section of under 5 octets, or of another length than its own octets say, makes a body that is refused
+/// with 20; a longer one than 65,536 octets makes a queue that is refused with 2.
 fn in_place_of_others(cases: &mut Queues) {
     let [one, _, _, _, packed] = good();
     let shows = "in place of 1 and 3 a record has 20";
@@ -196,6 +196,10 @@ fn in_place_of_others(cases: &mut Queues) {
         let queue = queue_of(&[filed(5, 0, &[given]), plainly(6)]);
         cases.stated(shows, queue, "\n1 5 0 refused 20 0 0\n2 6 0 kept\n");
     }
+}
+
+/// Ni and Nj as large as they can be: their product has nearly 64 bits, and its last 32 are the number of points that is stated.
+fn greatest_product(cases: &mut Queues) {
     let most = ONES - 1;
     let great = Grid {
         ni: most,
@@ -204,7 +208,7 @@ fn in_place_of_others(cases: &mut Queues) {
     }
     .points_are(4);
     let queue = queue_of(&[filed(5, 0, &[(THREE, great)]), plainly(6)]);
-    let shows = "in place of 12 a record has 13";
+    let shows = "refusal 13 of the greatest Ni x Nj";
     cases.stated(shows, queue, "\n1 5 0 refused 13 3 0\n");
 }
 
@@ -410,6 +414,7 @@ fn first_section_that_is_refused(cases: &mut Queues) {
 pub fn add(cases: &mut Queues) {
     refusals_of_fields(cases);
     in_place_of_others(cases);
+    greatest_product(cases);
     slots(cases);
     bodies(cases);
     more_bodies(cases);

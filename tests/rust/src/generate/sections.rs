@@ -162,6 +162,15 @@ fn counts(rng: &mut Rng, size: Size) -> (u64, u64) {
     }
 }
 
+/// Ni and Nj whose product passes 32 bits: just so, or by as many as it can.
+fn counts_beyond(rng: &mut Rng) -> (u64, u64) {
+    let few = rng.below(3) as u64;
+    match rng.below(2) {
+        0 => (1 << 16, (1 << 16) + few),
+        _ => (MISSING - 1 - few, MISSING - 1),
+    }
+}
+
 /// Numbers of a list, whose sum fits the number of points.
 fn listed(rng: &mut Rng, size: Size, width: usize, count: usize) -> Vec<u64> {
     let most = match size {
@@ -224,7 +233,7 @@ pub fn wrapped_section3(rng: &mut Rng) -> Vec<u8> {
     } else {
         s.truncate(grid::TEMPLATES[number(&s, 13, 14) as usize].base_end);
         close(&mut s);
-        let (ni, nj) = (1 << 16, (1 << 16) + rng.below(3) as u64);
+        let (ni, nj) = counts_beyond(rng);
         with_counts(&mut s, 0, 0, ni, nj, 0);
         ni * nj
     };

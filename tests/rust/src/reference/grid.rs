@@ -139,7 +139,7 @@ fn list_of(record: &Record, base_end: usize) -> List {
     }
 }
 
-/// Ni x Nj, or the sum of the list. Neither can pass 64 bits, so that 12 never comes.
+/// Ni x Nj, or the sum of the list. Neither can pass 64 bits.
 fn points_by_counts(s: &[u8], record: &Record, list: List) -> u64 {
     match list.width {
         0 => record.number(NI_AT) as u64 * record.number(NJ_AT) as u64,

@@ -2,12 +2,13 @@
 use crate::lent::{
     damaged_by_chance, difference_of_answers, exact, hex, places_about, report, Lent,
 };
-use crate::tally::{template_kind, Tally};
+use crate::tally::{template_kind, Tally, GREATEST_PRODUCT};
 use skogmund_tests::entries::{self, Answer};
 use skogmund_tests::generate::sections::{self, Size};
 use skogmund_tests::generate::Rng;
 use skogmund_tests::reference::entries::VALUES;
-use skogmund_tests::reference::{self, Outcome};
+use skogmund_tests::reference::octets::number;
+use skogmund_tests::reference::{self, grid, Outcome, Refusal};
 
 const SECTIONS: &[u8] = &[1, 3, 4, 5, 7];
 
@@ -49,13 +50,24 @@ fn number_asked(rng: &mut Rng, section: u8) -> u8 {
     }
 }
 
+/// Whether this is a section 3 without a list whose Ni x Nj has all 64 bits, and is not the number of points.
+fn has_greatest_product(s: &[u8], refusal: Refusal) -> bool {
+    refusal.number == 13
+        && number(s, grid::WIDTH_AT, 11) == 0
+        && number(s, grid::NI_AT, 34) * number(s, grid::NJ_AT, 38) >= 1 << 63
+}
+
 fn tally_read(tally: &mut Tally, asked: u8, s: &[u8], owed: &Outcome<Vec<i64>>) {
     tally.length(s);
     if !SECTIONS.contains(&asked) {
         return tally.kind("read: another section number");
     }
     tally.outcome("read", owed);
-    let Ok(values) = owed else { return };
+    let values = match owed {
+        Ok(values) => values,
+        Err(refusal) if has_greatest_product(s, *refusal) => return tally.kind(GREATEST_PRODUCT),
+        Err(_) => return,
+    };
     if values.contains(&i64::MIN) {
         tally.kind("read: missing value");
     }

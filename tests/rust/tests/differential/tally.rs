@@ -70,8 +70,8 @@ impl Tally {
     }
 }
 
-/// What each entry can meet by document 01 and the header. 12 can't come up, as two numbers of 32 bits have no product above 64; the
-/// sections of a body are cut by their own lengths, so that 1, 2 and 3 can't come up in a queue.
+/// What each entry can meet by document 01 and the header. The sections of a body are cut by their own lengths, so that 1, 2 and 3 can't
+/// come up in a queue.
 const EVERY_REFUSAL: &[(&str, u8, &[u8])] = &[
     ("read", 0, &[18]),
     ("read", 1, &[1, 2, 3, 4, 5, 6, 7, 8, 11]),
@@ -139,8 +139,12 @@ const KINDS: &[&str] = &[
     "shelf: too short",
     "shelf: too long",
     "shelf: too little beside it",
+    GREATEST_PRODUCT,
     LONG,
 ];
+
+/// Ni x Nj at the end of 64 bits.
+pub const GREATEST_PRODUCT: &str = "read: 13 of a product of 64 bits";
 
 /// Inputs of tens of thousands of octets.
 const LONG: &str = "long inputs";

@@ -1,0 +1,41 @@
+-- Every table of refusals, those of the entries for C among them; and what it means that none of them has a number.
+-- Assumes nothing.
+use Prim.Native.Nat.{ℕ}
+use mathlib.Core.Path.{_≡_}
+use mathlib.Core.List.{List, [], _∷_}
+use Rattle.layout.specs.Refusals.{Row, Listed}
+use Rattle.layout.specs.declared.Refusal.{Refusal}
+use Rattle.identification.specs.Refused.{table₁}
+use Rattle.grid.specs.Refused.{table₃}
+use Rattle.product.specs.Refused.{table₄}
+use Rattle.packing.specs.Refused.{table₅, table₇, unpackTable}
+use Rattle.field.specs.Refused.{fieldTable}
+use Rattle.filing.specs.Refused.{filingTable}
+use Rattle.queue.specs.Refused.{recordTable, queueTable}
+use Rattle.values.specs.Refused.{readTable}
+use Rattle.demands.specs.NumbersForC.{roomTable, slotTable, fileTable, fileQueueTable}
+
+-- those that theorems of demand 1 cite; `readTable` goes by the section that is asked for
+abbrev pub tables : ℕ → List (List Row)
+tables asked =
+    readTable asked
+    ∷ table₁
+    ∷ table₃
+    ∷ table₄
+    ∷ table₅
+    ∷ table₇
+    ∷ unpackTable
+    ∷ fieldTable
+    ∷ filingTable
+    ∷ recordTable
+    ∷ queueTable
+    ∷ roomTable
+    ∷ slotTable
+    ∷ fileTable
+    ∷ fileQueueTable
+    ∷ []
+
+-- no refusal that one of the tables lists has this number
+abbrev pub NoneLists : ℕ → List (List Row) → Type 0
+NoneLists number [] = Unit {0}
+NoneLists number (table ∷ rest) = ((x : Refusal) → Listed table x → x .number ≡ number → ⊥) × NoneLists number rest
