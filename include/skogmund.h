@@ -33,7 +33,7 @@
 #define SKOGMUND_SECTION(refusal) ((unsigned)((uint64_t)(refusal) >> 32 & 255))
 #define SKOGMUND_PLACE(refusal) ((unsigned)((uint64_t)(refusal) & 0xffffffff))
 
-/* The numbers; there are no others. */
+/* The numbers. */
 #define SKOGMUND_REFUSED_UNDER_5 1        /* under 5 octets */
 #define SKOGMUND_REFUSED_TOO_LONG 2       /* a section or a queue above 65,536 octets */
 #define SKOGMUND_REFUSED_LENGTH 3         /* octets 1-4 are not the lent length */

@@ -1,5 +1,5 @@
--- Refusal 12 as document 01 had it before request 10 took it out: without a list, Ni x Nj above 64 bits. It stands here for one theorem alone, that
--- no outcome changed with it (`proofs/WithoutTwelve.antt`): no contract cites it, no table lists it, and no function gives it.
+-- Refusal 12 as document 01 had it before request 10 took it out: without a list, Ni x Nj above 64 bits. It stands here only for the theorem that
+-- taking it out changed no outcome (`proofs/WithoutTwelve.antt`): no contract cites it, no table lists it, and no function gives it.
 -- Assumes nothing.
 use Prim.Native.Nat.{ℕ, _*_, _^_}
 use mathlib.Core.List.{List, [], _∷_, _++_}
@@ -31,4 +31,4 @@ outcomeWithTwelve s =
 
 -- a grid 3.0 without a list whose number 31, the first of Ni, is no octet: of such a list of numbers 12 could be met
 unfoldable pub numbersNoOctets : List ℕ
-numbersNoOctets = digits 4 72 ++ (3 ∷ (replicate 25 0 ++ (2 ^ 40 ∷ replicate 41 1)))
+numbersNoOctets = digits 4 72 ++ (3 ∷ (replicate 25 0 ++ (2 ^ 40 ∷ replicate 41 2)))

@@ -21,7 +21,7 @@ pub(crate) fn points_refusal(section: &[u8], template: Template) -> Refusal
     Refusal::none()
 }
 
-// Ni x Nj, which of two numbers of 32 bits is below 2^64, or the sum of the list.
+// Ni x Nj, below 2^64 as a product of two numbers of 32 bits, or the sum of the list.
 fn points_of(section: &[u8], template: Template) -> u64
     ensures { λ r. ⌜ (agreed (now (section .entry)) ≡ true → r ≡ pointsOf template (now (section .entry))) ⌝ }
 {

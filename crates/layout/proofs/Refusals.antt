@@ -218,6 +218,27 @@ fitting-told section bad own total s p b small =
     (rw (eq-eqb section section refl, eq-eqb own own refl) (either P (eqb own 0) refl (either P (eqb own 8) refl (either P (eqb own 11) refl refl))))
     p b small)
 
+-- ---- a number that a table lacks
+
+-- no section of it has the number
+abbrev pub lacks : ℕ → List Row → Bool
+lacks number [] = true
+lacks number (r ∷ rs) = not (oneOf (r .numbers) number) && lacks number rs
+
+pub never-listed : (number : ℕ) (table : List Row) (section : ℕ) → lacks number table ≡ true → oneOf (numbersOf table section) number ≡ true → ⊥
+never-listed number [] section p e = true≢false (sym e)
+never-listed number (r ∷ rs) section p e =
+    let parts = both-hold _ _ p in
+    by (eqb section (r .section)) (parts .0) (never-listed number rs section (parts .1)) e
+  where
+    not-both : (t : Bool) → not t ≡ true → t ≡ true → ⊥
+    not-both true n e = true≢false (sym n)
+    not-both false n e = true≢false (sym e)
+
+    by : (t : Bool) → not (oneOf (r .numbers) number) ≡ true → (oneOf (numbersOf rs section) number ≡ true → ⊥) → oneOf (cond t (r .numbers) (numbersOf rs section)) number ≡ true → ⊥
+    by true n rest e = not-both _ n e
+    by false n rest e = rest e
+
 -- ---- as one number
 
 -- what it needs: its number is not 0, and there is room for its place
@@ -227,24 +248,9 @@ Proper (read vs) = Unit {0}
 
 -- no section of a table has the number 0
 abbrev pub positive : List Row → Bool
-positive [] = true
-positive (r ∷ rs) = not (oneOf (r .numbers) 0) && positive rs
-
-never-0 : (table : List Row) (section : ℕ) → positive table ≡ true → oneOf (numbersOf table section) 0 ≡ true → ⊥
-never-0 [] section p e = true≢false (sym e)
-never-0 (r ∷ rs) section p e =
-    let parts = both-hold _ _ p in
-    by (eqb section (r .section)) (parts .0) (never-0 rs section (parts .1)) e
-  where
-    not-both : (t : Bool) → not t ≡ true → t ≡ true → ⊥
-    not-both true n e = true≢false (sym n)
-    not-both false n e = true≢false (sym e)
-
-    by : (t : Bool) → not (oneOf (r .numbers) 0) ≡ true → (oneOf (numbersOf rs section) 0 ≡ true → ⊥) → oneOf (cond t (r .numbers) (numbersOf rs section)) 0 ≡ true → ⊥
-    by true n rest e = not-both _ n e
-    by false n rest e = rest e
+positive table = lacks 0 table
 
 pub proper : (table : List Row) (o : Outcome) → positive table ≡ true → Refuses table o → Proper o
 proper table (refused number section place) p h =
-    ((λ z. never-0 table section p (subst (λ (n : ℕ). oneOf (numbersOf table section) n ≡ true) z (h .listed))), h .placed .within)
+    ((λ z. never-listed 0 table section p (subst (λ (n : ℕ). oneOf (numbersOf table section) n ≡ true) z (h .listed))), h .placed .within)
 proper table (read vs) p h = tt

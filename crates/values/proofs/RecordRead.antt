@@ -5,7 +5,7 @@ use native.Mathlib.Omega.{arith}
 use mathlib.Core.Path.{_≡_, refl}
 use mathlib.Core.Logic.{_⊎_, inl, inr}
 use mathlib.Core.Bool.{Bool, true, false}
-use mathlib.Core.List.{List}
+use mathlib.Core.List.{List, [], _∷_}
 use lib.Dec.{eqb, leb}
 use lib.IntN.{ℤ}
 use lib.ListN.{length}
@@ -15,7 +15,7 @@ use Rattle.lent.proofs.Answers.{room-leaves}
 use Rattle.layout.specs.Fields.{Value}
 use Rattle.layout.specs.Outcomes.{Outcome, refused, read, noRefusal, refusal, refusalOf}
 use Rattle.layout.specs.declared.Refusal.{Refusal}
-use Rattle.layout.specs.Refusals.{Row, oneOf, numbersOf, lastPlace, Listed}
+use Rattle.layout.specs.Refusals.{Row, row, oneOf, numbersOf, lastPlace, Listed}
 use Rattle.layout.proofs.Outcomes.{either}
 use Rattle.layout.proofs.Refusals.{Refuses, refuses-wider, placeless, head-refuses, Proper, positive, proper}
 use Rattle.identification.specs.Section1.{outcome₁}
@@ -54,11 +54,14 @@ own P p q section s =
 section-refuses : (section : ℕ) (s : List ℕ) → Refuses (readTable section) (sectionOutcome section s)
 section-refuses = own (λ n o. Refuses (readTable n) o) (λ n o r e. r) (λ n l. l)
 
+-- what holds of the table of each section, and of one that is not read, holds of the one that is asked for
+pub of-each-table : (P : List Row → Type 0) (section : ℕ) → P (readTable 1) → P (readTable 3) → P (readTable 4) → P (readTable 5) → P (readTable 7) → P (row section (4 ∷ []) ∷ []) → P (readTable section)
+of-each-table P section one three four five seven other =
+    either P (eqb section 1) one (either P (eqb section 3) three (either P (eqb section 4) four (either P (eqb section 5) five (either P (eqb section 7) seven other))))
+
 -- none of its numbers is 0
 positive-own : (section : ℕ) → positive (readTable section) ≡ true
-positive-own section =
-    let P : List Row → Type 0 = λ table. positive table ≡ true in
-    either P (eqb section 1) refl (either P (eqb section 3) refl (either P (eqb section 4) refl (either P (eqb section 5) refl (either P (eqb section 7) refl refl))))
+positive-own section = of-each-table (λ table. positive table ≡ true) section refl refl refl refl refl refl
 
 pub all-proper : (section : ℕ) (s : List ℕ) → Proper (sectionOutcome section s)
 all-proper section s = proper (readTable section) (sectionOutcome section s) (positive-own section) (section-refuses section s)

@@ -198,7 +198,7 @@ fn in_place_of_others(cases: &mut Queues) {
     }
 }
 
-/// Ni and Nj as large as they can be: their product has nearly 64 bits, and its last 32 are the number of points that is stated.
+/// Ni and Nj as large as they can be: their product is just below 2^64, and its last 32 bits are the number of points that is stated.
 fn greatest_product(cases: &mut Queues) {
     let most = ONES - 1;
     let great = Grid {
@@ -208,7 +208,7 @@ fn greatest_product(cases: &mut Queues) {
     }
     .points_are(4);
     let queue = queue_of(&[filed(5, 0, &[(THREE, great)]), plainly(6)]);
-    let shows = "refusal 13 of the greatest Ni x Nj";
+    let shows = "refusal 13 for the greatest Ni x Nj";
     cases.stated(shows, queue, "\n1 5 0 refused 13 3 0\n");
 }
 

@@ -162,7 +162,7 @@ fn counts(rng: &mut Rng, size: Size) -> (u64, u64) {
     }
 }
 
-/// Ni and Nj whose product passes 32 bits: just so, or by as many as it can.
+/// Ni and Nj whose product passes 32 bits: just, or nearly up to 2^64.
 fn counts_beyond(rng: &mut Rng) -> (u64, u64) {
     let few = rng.below(3) as u64;
     match rng.below(2) {

@@ -143,8 +143,8 @@ const KINDS: &[&str] = &[
     LONG,
 ];
 
-/// Ni x Nj at the end of 64 bits.
-pub const GREATEST_PRODUCT: &str = "read: 13 of a product of 64 bits";
+/// 13 where Ni x Nj has all 64 bits.
+pub const GREATEST_PRODUCT: &str = "read: 13 for a product of all 64 bits";
 
 /// Inputs of tens of thousands of octets.
 const LONG: &str = "long inputs";
