@@ -3,16 +3,16 @@
 -- Assumes nothing.
 use Prim.Native.Nat.{ℕ, _*_, _^_, _<_}
 use mathlib.Core.Path.{_≡_, refl}
-use mathlib.Core.Bool.{Bool, true, false, _&&_}
+use mathlib.Core.Bool.{false, and-false}
 use mathlib.Core.List.{List}
-use lib.Dec.{eqb, leb}
+use lib.Dec.{eqb}
 use borrow.Author.Tests.{lt-leb}
 use Rattle.octets.specs.Octets.{AllOctets, part, be, beAt, digits}
 use Rattle.octets.proofs.Laws.{beAt-below, product-below}
 use Rattle.layout.specs.Fields.{between, placed, lowestBad}
 use Rattle.layout.specs.Outcomes.{refused, firstOf, openingReasons, totalReasons, fittingReasons, templateReasons}
 use Rattle.grid.specs.Blocks.{gridHead, earthSize, earth, counts, corners, common, poles}
-use Rattle.grid.specs.Templates.{listWidth, ni, nj, fields₃, listCount, templateNumbered}
+use Rattle.grid.specs.Templates.{listWidth, fields₃, listCount, templateNumbered}
 use Rattle.grid.specs.Agreement.{agreedWithoutList, agreed}
 use Rattle.grid.specs.Points.{pointsOf}
 use Rattle.grid.specs.Section3.{asTemplate, outcome₃}
@@ -24,11 +24,7 @@ product-below-64-bits s o = product-below 32 32 (beAt s 31 4) (beAt s 35 4) (beA
 
 pub never-above : (s : List ℕ) → AllOctets s → productAbove s ≡ false
 unfolding productAbove
-never-above s o = by-width (eqb (listWidth s) 0)
-  where
-    by-width : (t : Bool) → (t && leb (2 ^ 64) (ni s * nj s)) ≡ false
-    by-width true = lt-leb _ _ (product-below-64-bits s o)
-    by-width false = refl
+never-above s o = rw (lt-leb _ _ (product-below-64-bits s o)) (and-false (eqb (listWidth s) 0))
 
 pub same-without-twelve : (s : List ℕ) → AllOctets s → outcomeWithTwelve s ≡ outcome₃ s
 unfolding outcomeWithTwelve asTemplateWithTwelve outcome₃ asTemplate firstOf
