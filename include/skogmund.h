@@ -21,14 +21,14 @@
 
 /* The version of what is declared here: the first number rises where an entry or a name that was there changes or goes, the second where one
    is new. */
-#define SKOGMUND_VERSION_MAJOR 2
+#define SKOGMUND_VERSION_MAJOR 3
 #define SKOGMUND_VERSION_MINOR 0
 #define SKOGMUND_VERSION (SKOGMUND_VERSION_MAJOR * 1000 + SKOGMUND_VERSION_MINOR)
 
 /* ---- refusals
 
-   A refusal is number x 2^40 + section x 2^32 + place. The section is 0 where none is meant, and the place where there is none; otherwise it is
-   an octet of the section, from 1. Each of the three is an `unsigned`. */
+   A refusal is number x 2^40 + section x 2^32 + place. The section is 0 where none is meant. The place is an octet of the section, counted from
+   1, with the three numbers that say which; with the others it is 0. Each of the three is an `unsigned`. */
 #define SKOGMUND_NUMBER(refusal) ((unsigned)((uint64_t)(refusal) >> 40))
 #define SKOGMUND_SECTION(refusal) ((unsigned)((uint64_t)(refusal) >> 32 & 255))
 #define SKOGMUND_PLACE(refusal) ((unsigned)((uint64_t)(refusal) & 0xffffffff))
@@ -44,7 +44,7 @@
 #define SKOGMUND_REFUSED_FIELD 8          /* a field out of its range; the place is the first octet of the lowest */
 #define SKOGMUND_REFUSED_NO_RANGE 9       /* no time range: n is 0 */
 #define SKOGMUND_REFUSED_WIDTH 10         /* section 3's width, Ni, Nj, Di, Dj and octet 12 disagree */
-#define SKOGMUND_REFUSED_TOTAL 11         /* the length is not the total */
+#define SKOGMUND_REFUSED_UNDER_TOTAL 11   /* shorter than the total (section 3 or 4); the place is the first octet that is not there */
 #define SKOGMUND_REFUSED_POINTS 13        /* the number of points is not Ni x Nj, or the list's sum */
 #define SKOGMUND_REFUSED_VALUES 14        /* section 5's N is not section 3's number of points */
 #define SKOGMUND_REFUSED_DATA 15          /* section 7's length is not the one that N and the bits give */
@@ -53,6 +53,7 @@
 #define SKOGMUND_REFUSED_ROOM 18          /* too few places are lent, or a row or a shelf of another length */
 #define SKOGMUND_REFUSED_QUEUE 19         /* a number that no queue has, or a record past the queue's end */
 #define SKOGMUND_REFUSED_BODY 20          /* a record's body is not five sections of 5 or more octets */
+#define SKOGMUND_REFUSED_OVER_TOTAL 21    /* longer than the total; the place is the first octet beyond */
 
 #ifdef __cplusplus
 extern "C" {

@@ -8,3 +8,4 @@ pub mod ShelvesAsOctets
 pub mod ShelvesForC
 pub mod NumbersForC
 pub mod Twelve
+pub mod ShortOrLong

@@ -9,10 +9,10 @@ use Rattle.packing.proofs.StarredPacking.{packing-agrees}
 use Rattle.queue.proofs.StarredQueues.{queues-agree}
 use Rattle.demands.specs.Starred.{starred}
 
-both : (some more : List Example) → AllAgree some → AllAgree more → AllAgree (some ++ more)
+pub both : (some more : List Example) → AllAgree some → AllAgree more → AllAgree (some ++ more)
 unfolding AllAgree
 both [] more p q = q
 both (e ∷ es) more p q = (p .0, both es more (p .1) q)
 
 pub starred-cases : AllAgree starred
-starred-cases = both _ _ years-agree (both _ _ products-agree (both _ _ grids-agree (both _ _ packing-agrees queues-agree)))
+starred-cases = both _ _ (years-agree .0) (both _ _ (products-agree .0) (both _ _ (grids-agree .0) (both _ _ (packing-agrees .0) queues-agree)))

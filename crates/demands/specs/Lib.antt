@@ -3,3 +3,4 @@ pub mod Accepted
 pub mod Histories
 pub mod NumbersForC
 pub mod Tables
+pub mod ShortOrLong

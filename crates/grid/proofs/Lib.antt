@@ -7,5 +7,6 @@ pub mod FieldsByBlock
 pub mod Widths
 pub mod Entries
 pub mod RefusalNumbers
+pub mod ShortOrLong
 pub mod MeansByName
 pub mod WithoutTwelve

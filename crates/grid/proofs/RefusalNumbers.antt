@@ -39,7 +39,7 @@ unfolding asTemplate
 as-template template s small =
     let listed = either (λ (n : ℕ). oneOf (0 ∷ numbers₃) n ≡ true) (not (agreed s)) refl refl in
     let no-place = either (λ (n : ℕ). hasPlace n ≡ false) (not (agreed s)) refl refl in
-    template-refuses table₃ 3 (baseEnd template) _ (disagreement s) (total template s) s _ refl listed no-place (bad₃ template _ s) small (by-points template s)
+    template-refuses table₃ 3 (baseEnd template) _ (disagreement s) (total template s) s _ refl (λ h. refl) listed no-place (bad₃ template _ s) small (by-points template s)
 
 pub refuses₃ : (s : List ℕ) → Refuses table₃ (outcome₃ s)
 unfolding outcome₃

@@ -1,12 +1,12 @@
--- Document 01's starred grid: 3.0, Ni missing, Nj = 3, width 2, list 4, 6, 4 has 78 octets and 14 points.
+-- Document 01's starred grid: 3.0, Ni missing, Nj = 3, width 2, list 4, 6, 4 has 78 octets and 14 points. And grids that are short or long.
 -- Assumes nothing.
 use Prim.Native.Nat.{ℕ}
 use mathlib.Core.List.{List, [], _∷_, _++_, map}
-use lib.ListN.{length, getD}
+use lib.ListN.{length, getD, replicate}
 use lib.IntN.{ℤ, pos}
 use Rattle.octets.specs.Octets.{digits, allOnes}
 use Rattle.layout.specs.Fields.{Value, none, wholeIn}
-use Rattle.layout.specs.Examples.{Example, answered}
+use Rattle.layout.specs.Examples.{Example, answered, refusedAt, filledUp}
 use Rattle.grid.specs.Section3.{outcome₃}
 use Rattle.grid.specs.Views.{list₃}
 
@@ -46,4 +46,25 @@ starredGrids =
       made = map pos (list₃ exampleSection);
       stated = pos 0 ∷ pos 4 ∷ pos 0 ∷ pos 6 ∷ pos 0 ∷ pos 4 ∷ [];
     }
+    ∷ []
+
+-- ---- short or long
+
+-- so many octets of 3.0 with a list of so many numbers of one octet each, Ni missing; from octet 5 to 12: number, source, points, width, interpretation;
+-- 13 to 30: template, earth; 31 to 46: Ni, Nj, basic angle, subdivisions; 47 to 63: 0; 64 to 67: Di
+abbrev pub withList : ℕ → ℕ → List ℕ
+withList octets listed =
+    filledUp octets (3 ∷ 0 ∷ (digits 4 0 ++ (1 ∷ 1 ∷ (replicate 18 0 ++ (digits 4 (allOnes 4) ++ (digits 4 listed ++ (digits 4 0 ++ (digits 4 1 ++ (replicate 17 0 ++ digits 4 (allOnes 4))))))))))
+
+abbrev pub isRefused : ℕ → ℕ → List ℕ → Example
+isRefused number place s = refusedAt number 3 place (outcome₃ s)
+
+-- their totals are 72 and as many as are listed
+abbrev pub endGrids : List Example
+endGrids =
+    isRefused 7 0 (withList 71 3)
+    ∷ isRefused 11 75 (withList 74 3)
+    ∷ isRefused 21 76 (withList 76 3)
+    ∷ isRefused 11 65537 (withList 65536 65465)
+    ∷ isRefused 21 65536 (withList 65536 65463)
     ∷ []

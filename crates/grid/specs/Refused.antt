@@ -5,7 +5,7 @@ use mathlib.Core.List.{List, [], _∷_}
 use Rattle.layout.specs.Refusals.{Row, row, sharedNumbers}
 
 abbrev pub numbers₃ : List ℕ
-numbers₃ = 10 ∷ 13 ∷ sharedNumbers
+numbers₃ = 10 ∷ 11 ∷ 13 ∷ sharedNumbers
 
 abbrev pub table₃ : List Row
 table₃ = row 3 numbers₃ ∷ []

@@ -15,7 +15,7 @@ use Rattle.grid.specs.declared.templates.Template.{Template}
 use Rattle.grid.specs.declared.Answer.{Answer}
 use Rattle.grid.specs.declared.Answer.the-variants.{Read, Refused}
 
--- 7, 8, 10 and 11, once the template is known, and then the points
+-- 7, 8, 10 and the total's 11 and 21, once the template is known, and then the points
 unfoldable pub asTemplate : Template → List ℕ → Outcome
 asTemplate template s =
     firstOf 3 (templateReasons (baseEnd template) (badPlace (after 0 (fields₃ template (listOctets s))) s) (disagreement s) (total template s) s)

@@ -18,7 +18,7 @@ use Rattle.layout.proofs.Blocks.{bad-none, none-bad}
 use Rattle.layout.proofs.Outcomes.{Headed, Fits, NoneHold, read-none, none-last, opening-read, opening-last, template-read, template-last}
 use Rattle.layout.proofs.Ranges.{between-in, in-between, test-differs, differs-test}
 use Rattle.identification.specs.Section1.{fields₁, origin, statusAndType, templateFields, total, values₁, asTemplate, byNumber, byTemplate, outcome₁}
-use Rattle.identification.specs.Accepted.{Names, OffsetPresent, Follows₁}
+use Rattle.identification.specs.Accepted.{Names, ReadBy, OffsetPresent, Follows₁}
 use Rattle.identification.specs.declared.Template.{Template}
 use Rattle.identification.specs.declared.Template.the-variants.{None as noTemplate, Calendar, Offset, CalendarAndOffset}
 
@@ -94,12 +94,18 @@ total-not-22 Calendar e = eqb-false 24 22 refl e
 total-not-22 Offset e = eqb-false 25 22 refl e
 total-not-22 CalendarAndOffset e = eqb-false 26 22 refl e
 
-template-named : (template : Template) (s : List ℕ) → length s ≡ total template → Names template s → byTemplate s ≡ asTemplate template s
+pub read-by : (template : Template) (s : List ℕ) → ReadBy template s → byTemplate s ≡ asTemplate template s
 unfolding byTemplate byNumber
-template-named noTemplate s l n = rw l
-template-named Calendar s l n = rw (l, n)
-template-named Offset s l n = rw (l, n)
-template-named CalendarAndOffset s l n = rw (l, n)
+read-by noTemplate s h = rw h
+read-by Calendar s h = rw (ne-eqb _ _ (h .0), h .1)
+read-by Offset s h = rw (ne-eqb _ _ (h .0), h .1)
+read-by CalendarAndOffset s h = rw (ne-eqb _ _ (h .0), h .1)
+
+template-named : (template : Template) (s : List ℕ) → length s ≡ total template → Names template s → ReadBy template s
+template-named noTemplate s l n = l
+template-named Calendar s l n = ((λ e. eqb-false 24 21 refl (sym l ∙ e)), n)
+template-named Offset s l n = ((λ e. eqb-false 25 21 refl (sym l ∙ e)), n)
+template-named CalendarAndOffset s l n = ((λ e. eqb-false 26 21 refl (sym l ∙ e)), n)
 
 pub follows-accepted : (template : Template) (s : List ℕ) → Follows₁ template s → outcome₁ s ≡ read (values₁ template s)
 unfolding outcome₁ asTemplate NoneHold AllAllowed placed fields₁ origin time statusAndType
@@ -150,7 +156,7 @@ follows-accepted template s f =
       ),
     ) in
     let fits : Fits (total template) (badPlace (after 0 (fields₁ template)) s) 0 (total template) s = record { enough = omega arith; in-range = none-bad _ s fine; own-kept = refl; whole = l } in
-    opening-last 1 s _ 21 headed long ∙ not-22 ∙ template-named template s l (f .names) ∙ template-last 1 s (read (values₁ template s)) _ _ _ _ fits
+    opening-last 1 s _ 21 headed long ∙ not-22 ∙ read-by template s (template-named template s l (f .names)) ∙ template-last 1 s (read (values₁ template s)) _ _ _ _ fits
 
 pub accepted-exactly-when : (s : List ℕ) → ((vs : List Value) × (outcome₁ s ≡ read vs)) ↔ ((template : Template) × Follows₁ template s)
 accepted-exactly-when s = (

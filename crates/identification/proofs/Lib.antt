@@ -4,5 +4,6 @@ pub mod AnswersDetermined
 pub mod StarredYears
 pub mod Entries
 pub mod RefusalNumbers
+pub mod ShortOrLong
 pub mod MeansByName
 pub mod OneTemplate

@@ -1,6 +1,7 @@
 -- A refusal of section 1 has a number and a place as document 01 has them.
 -- Assumes nothing.
 use Prim.Native.Nat.{ℕ, zero, suc, _≤_}
+use native.Mathlib.Omega.{arith}
 use mathlib.Core.Path.{_≡_, refl}
 use mathlib.Core.List.{List}
 use lib.ListN.{length}
@@ -31,7 +32,7 @@ module _ (s : List ℕ) (small : length s ≤ 65536) where
   as-template : (template : Template) → Refuses table₁ (asTemplate template s)
   unfolding asTemplate
   as-template template =
-      template-refuses table₁ 1 (total template) _ 0 (total template) s (read (values₁ template s)) refl refl refl (bad₁ template s) small tt
+      template-refuses table₁ 1 (total template) _ 0 (total template) s (read (values₁ template s)) refl (λ h. absurd (omega (arith, h))) refl refl (bad₁ template s) small tt
 
   by-number : (n : ℕ) → Refuses table₁ (byNumber n s)
   unfolding byNumber

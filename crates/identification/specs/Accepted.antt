@@ -49,6 +49,13 @@ Names Calendar s = beAt s 22 2 ≡ 0
 Names Offset s = beAt s 22 2 ≡ 1
 Names CalendarAndOffset s = beAt s 22 2 ≡ 2
 
+-- the template by which a section is read, accepted or not: none if it has 21 octets, and otherwise the one that octets 22-23 name
+abbrev pub ReadBy : Template → List ℕ → Type 0
+ReadBy noTemplate s = length s ≡ 21
+ReadBy Calendar s = (length s ≡ 21 → ⊥) × Names Calendar s
+ReadBy Offset s = (length s ≡ 21 → ⊥) × Names Offset s
+ReadBy CalendarAndOffset s = (length s ≡ 21 → ⊥) × Names CalendarAndOffset s
+
 -- the offset, where there is one, is not missing
 abbrev pub OffsetPresent : Template → List ℕ → Type 0
 OffsetPresent noTemplate s = Unit {0}

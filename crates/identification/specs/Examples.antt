@@ -1,12 +1,13 @@
--- Document 01's starred years: a year, its offset, and the real year that is read of whole sections with them.
+-- Document 01's starred years: a year, its offset, and the real year that is read of whole sections with them. And sections that are short or
+-- long.
 -- Assumes nothing.
-use Prim.Native.Nat.{ℕ}
+use Prim.Native.Nat.{ℕ, _-_}
 use mathlib.Core.List.{List, [], _∷_, _++_}
 use lib.ListN.{replicate}
 use lib.IntN.{ℤ, pos, negℤ}
 use Rattle.octets.specs.Octets.{digits}
 use Rattle.layout.specs.Fields.{Value}
-use Rattle.layout.specs.Examples.{Example, answered}
+use Rattle.layout.specs.Examples.{Example, answered, refusedAt}
 use Rattle.identification.specs.Section1.{outcome₁, realYearOf}
 
 -- octets 1 to 23: of so many octets, with a year, 1 January, a template number, and all else 0
@@ -39,3 +40,14 @@ starredYears =
     ∷ realYearIs 0x8005 0x8001 (negℤ (pos 10005))
     ∷ realYearIs 0 1 (pos 10000)
     ∷ []
+
+-- ---- short or long
+
+-- so many octets of template 1.0, from octet 24 on 0
+abbrev pub example10 : ℕ → List ℕ
+example10 octets = exampleFront octets 2024 0 ++ replicate (octets - 23) 0
+
+-- its total is 24
+abbrev pub endIdentifications : List Example
+endIdentifications =
+    refusedAt 7 1 0 (outcome₁ (example10 23)) ∷ refusedAt 21 1 25 (outcome₁ (example10 25)) ∷ refusedAt 21 1 25 (outcome₁ (example10 65536)) ∷ []

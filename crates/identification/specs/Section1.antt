@@ -100,7 +100,7 @@ realYearOf one = wholeIn (valueAt one 18)
 
 -- ---- the outcome
 
--- 7, 8 and 11, once the template is known
+-- 7, 8 and the total's 21, once the template is known; 7 leaves nothing to 11
 unfoldable pub asTemplate : Template → List ℕ → Outcome
 asTemplate template s =
     firstOf 1 (templateReasons (total template) (badPlace (after 0 (fields₁ template)) s) 0 (total template) s) (read (values₁ template s))

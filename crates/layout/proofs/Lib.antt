@@ -1,6 +1,7 @@
 pub mod Blocks
 pub mod Outcomes
 pub mod Refusals
+pub mod Totals
 pub mod Ranges
 pub mod Untold
 pub mod Shown

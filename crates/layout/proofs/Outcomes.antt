@@ -100,7 +100,7 @@ opening-numbered section least s = ((λ h. refl), ((λ h. refl), ((λ h. refl), 
 
 fitting-numbered : (bad own total : ℕ) (s : List ℕ) → Numbered (fittingReasons bad own total s)
 unfolding Numbered fittingReasons totalReasons
-fitting-numbered bad own total s = ((λ h. refl), (not-true _, ((λ h. refl), tt)))
+fitting-numbered bad own total s = ((λ h. refl), (not-true _, ((λ h. refl), ((λ h. refl), tt))))
 
 -- 5 behind the head's
 pub opening-by-head : (section least : ℕ) (s : List ℕ) → let head = firstRefusal section (headReasons section s) in firstRefusal section (openingReasons section least s) ≡ cond (eqb (head .number) 0) (cond (ltb (length s) least) (refusal 5 section 0) noRefusal) head
@@ -180,7 +180,7 @@ module _ (section : ℕ) (s : List ℕ) (o : Outcome) where
           enough = ltb-false _ _ (h .0 .0);
           in-range = test-same _ _ (h .0 .1 .0);
           own-kept = test-same _ _ (h .0 .1 .1 .0);
-          whole = test-same _ _ (h .0 .1 .1 .1 .0);
+          whole = omega (arith, ltb-false (length s) total (h .0 .1 .1 .1 .0), ltb-false total (length s) (h .0 .1 .1 .1 .1 .0));
         },
         h .1,
       )
@@ -189,7 +189,7 @@ module _ (section : ℕ) (s : List ℕ) (o : Outcome) where
   unfolding NoneHold templateReasons fittingReasons totalReasons
   template-last smallest bad own total f =
       none-last section (templateReasons smallest bad own total s) o
-      (le-ltb _ _ (f .enough), (same-test _ _ (f .in-range), (same-test _ _ (f .own-kept), (same-test _ _ (f .whole), tt))))
+      (le-ltb _ _ (f .enough), (same-test _ _ (f .in-range), (same-test _ _ (f .own-kept), (le-ltb (length s) total (omega (arith, f .whole)), (le-ltb total (length s) (omega (arith, f .whole)), tt)))))
 
 -- ---- a caller that takes an answer apart
 

@@ -1,6 +1,6 @@
 -- A refusal by the first reason that holds is one that a table lists, for every table and every list of reasons.
 -- Assumes nothing.
-use Prim.Native.Nat.{ℕ, _≤_}
+use Prim.Native.Nat.{ℕ, _+_, _<_, _≤_}
 use native.Mathlib.Omega.{arith}
 use mathlib.Core.Path.{_≡_, refl, sym, subst}
 use mathlib.Core.Logic.{_⊎_, inl, inr}
@@ -8,7 +8,7 @@ use mathlib.Core.List.{List, [], _∷_, _++_}
 use mathlib.Core.Bool.{Bool, true, false, not, cond, true≢false, _&&_}
 use lib.Dec.{leb, ltb, eqb}
 use lib.ListN.{length}
-use borrow.Author.Tests.{eqb-true, eq-eqb, leb-true, ltb-false}
+use borrow.Author.Tests.{eqb-true, eq-eqb, ne-eqb, leb-true, ltb-true, ltb-false}
 use Rattle.layout.specs.Fields.{Field, held, said, shown, allowed, FieldAt, badPlace, lowestBad, rawAt}
 use Rattle.layout.specs.Outcomes.{Outcome, refused, read, refusal, refusedBy, Reason, reason, firstOf, firstRefusal, noRefusal, andThen, headReasons, openingReasons, totalReasons, fittingReasons, templateReasons}
 use Rattle.layout.specs.Refusals.{Row, row, oneOf, numbersOf, hasPlace, lastPlace, Listed, headNumbers, openingNumbers, fittingNumbers, templateNumbers}
@@ -128,15 +128,22 @@ opening-listed table section least s a =
     let parts = both-hold _ _ a in
     head-listed table section s (reason 5 (ltb (length s) least) ∷ []) (parts .1) (reason-listed table section 5 _ [] (parts .0) refl tt)
 
--- with 8 the place is an octet of the section
-fitting-listed : (table : List Row) (section bad own total : ℕ) (s : List ℕ) → allOf (numbersOf table section) fittingNumbers ≡ true → oneOf (0 ∷ numbersOf table section) own ≡ true → hasPlace own ≡ false → bad ≤ length s → length s ≤ 65536 → AllListed table section (fittingReasons bad own total s)
+-- a place that is not 0
+some : (n : ℕ) → not (eqb (n + 1) 0) ≡ true
+some n = rw (ne-eqb (n + 1) 0 (λ e. omega arith))
+
+-- with 8 and 21 the place is an octet of the section, and with 11 the one behind its last; 11 is listed where the section can be too short
+fitting-listed : (table : List Row) (section bad own total : ℕ) (s : List ℕ) → allOf (numbersOf table section) fittingNumbers ≡ true → (length s < total → Has table section 11) → oneOf (0 ∷ numbersOf table section) own ≡ true → hasPlace own ≡ false → bad ≤ length s → length s ≤ 65536 → AllListed table section (fittingReasons bad own total s)
 unfolding fittingReasons totalReasons AllListed
-fitting-listed table section bad own total s a l p b small =
+fitting-listed table section bad own total s a eleven l p b small =
     let has : (n : ℕ) → oneOf fittingNumbers n ≡ true → Has table section n = λ n e. all-of (numbersOf table section) fittingNumbers n a e in (
       (λ h. record { listed = has 8 refl; placed = record { given = h; within = omega arith } }),
       λ fine. (
         (λ h. placeless table own section (met own l h) p),
-        λ kept. reason-listed table section 11 _ [] (has 11 refl) refl tt,
+        λ kept. (
+          (λ h. record { listed = eleven (ltb-true (length s) total h); placed = record { given = some (length s); within = omega arith } }),
+          λ long. ((λ h. record { listed = has 21 refl; placed = record { given = some total; within = omega (arith, ltb-true total (length s) h) } }), λ whole. tt),
+        ),
       ),
     )
   where
@@ -155,14 +162,15 @@ unfolding openingReasons NoneHold
 opening-refuses table section least s o a q =
     first-refuses table section (openingReasons section least s) o (opening-listed table section least s a) (λ none. q (ltb-false _ _ (none .1 .0)))
 
--- the lowest bad field starts within the smallest total
-pub template-refuses : (table : List Row) (section smallest bad own total : ℕ) (s : List ℕ) (o : Outcome) → allOf (numbersOf table section) templateNumbers ≡ true → oneOf (0 ∷ numbersOf table section) own ≡ true → hasPlace own ≡ false → bad ≤ smallest → length s ≤ 65536 → Refuses table o → Refuses table (firstOf section (templateReasons smallest bad own total s) o)
+-- the lowest bad field starts within the smallest total; 11 is listed where the total can be above the smallest, and where it can't be 7 catches
+-- every section that is too short
+pub template-refuses : (table : List Row) (section smallest bad own total : ℕ) (s : List ℕ) (o : Outcome) → allOf (numbersOf table section) templateNumbers ≡ true → (smallest < total → oneOf (numbersOf table section) 11 ≡ true) → oneOf (0 ∷ numbersOf table section) own ≡ true → hasPlace own ≡ false → bad ≤ smallest → length s ≤ 65536 → Refuses table o → Refuses table (firstOf section (templateReasons smallest bad own total s) o)
 unfolding templateReasons AllListed
-template-refuses table section smallest bad own total s o a l p b small q =
+template-refuses table section smallest bad own total s o a eleven l p b small q =
     let parts = both-hold _ _ a in
     first-refuses table section (templateReasons smallest bad own total s) o (
       (λ h. placeless table 7 section (parts .0) refl),
-      λ long. fitting-listed table section bad own total s (parts .1) l p (omega (arith, ltb-false (length s) smallest long)) small,
+      λ long. let enough = ltb-false (length s) smallest long in fitting-listed table section bad own total s (parts .1) (λ h. eleven (omega arith)) l p (omega arith) small,
     ) (λ none. q)
 
 -- ---- where the lowest bad field starts
@@ -209,13 +217,13 @@ opening-told section least s =
 
 -- with an own number that has no place, and a bad field of the section, which has passed its head
 pub fitting-told : (section bad own total : ℕ) (s : List ℕ) → hasPlace own ≡ false → bad ≤ length s → length s ≤ 65536
-    → let x = firstRefusal section (fittingReasons bad own total s) in (x ≡ noRefusal) ⊎ Listed (row section (8 ∷ 11 ∷ own ∷ []) ∷ []) x
+    → let x = firstRefusal section (fittingReasons bad own total s) in (x ≡ noRefusal) ⊎ Listed (row section (8 ∷ 11 ∷ 21 ∷ own ∷ []) ∷ []) x
 fitting-told section bad own total s p b small =
-    let table = row section (8 ∷ 11 ∷ own ∷ []) ∷ [] in
+    let table = row section (8 ∷ 11 ∷ 21 ∷ own ∷ []) ∷ [] in
     let P : Bool → Type 0 = λ t. t ≡ true in
     first-listed table section (fittingReasons bad own total s)
-    (fitting-listed table section bad own total s (rw (eq-eqb section section refl))
-    (rw (eq-eqb section section refl, eq-eqb own own refl) (either P (eqb own 0) refl (either P (eqb own 8) refl (either P (eqb own 11) refl refl))))
+    (fitting-listed table section bad own total s (rw (eq-eqb section section refl)) (λ h. rw (eq-eqb section section refl))
+    (rw (eq-eqb section section refl, eq-eqb own own refl) (either P (eqb own 0) refl (either P (eqb own 8) refl (either P (eqb own 11) refl (either P (eqb own 21) refl refl)))))
     p b small)
 
 -- ---- a number that a table lacks

@@ -1,8 +1,11 @@
--- Worked examples of document 01, in one form for every kind, so that those which it stars can stand in one list.
+-- Worked examples of document 01, in one form for every kind, so that those which it stars can stand in one list, and others in another.
 -- Assumes nothing.
+use Prim.Native.Nat.{ℕ, _-_}
 use mathlib.Core.Path.{_≡_}
-use mathlib.Core.List.{List, [], _∷_}
+use mathlib.Core.List.{List, [], _∷_, _++_}
 use lib.IntN.{ℤ, pos}
+use lib.ListN.{length, replicate}
+use Rattle.octets.specs.Octets.{digits}
 use Rattle.layout.specs.Fields.{Value}
 use Rattle.layout.specs.Outcomes.{Outcome, refused, read}
 
@@ -15,6 +18,14 @@ pub record Example : Type 0 where
 abbrev pub answered : (List Value → List ℤ) → Outcome → List ℤ
 answered told (refused number section place) = pos number ∷ pos section ∷ pos place ∷ []
 answered told (read values) = told values
+
+-- a section that is refused with this number, section and place
+abbrev pub refusedAt : ℕ → ℕ → ℕ → Outcome → Example
+refusedAt number section place o = record { made = answered (λ values. []) o; stated = pos number ∷ pos section ∷ pos place ∷ [] }
+
+-- so many octets: octets 1-4 say how many, these follow, and then zeros
+abbrev pub filledUp : ℕ → List ℕ → List ℕ
+filledUp octets some = digits 4 octets ++ (some ++ replicate (octets - 4 - length some) 0)
 
 unfoldable pub AllAgree : List Example → Type 0
 AllAgree [] = Unit {0}

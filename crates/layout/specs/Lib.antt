@@ -1,6 +1,7 @@
 pub mod Fields
 pub mod Outcomes
 pub mod Refusals
+pub mod Totals
 pub mod Missing
 pub mod Time
 pub mod Examples

@@ -1,6 +1,6 @@
 -- What a reader answers: a refusal, by the first reason that holds, or what was read.
 -- Assumes nothing.
-use Prim.Native.Nat.{ℕ}
+use Prim.Native.Nat.{ℕ, _+_}
 use mathlib.Core.List.{List, [], _∷_, _++_}
 use mathlib.Core.Bool.{Bool, not, cond}
 use lib.ListN.{length}
@@ -80,9 +80,17 @@ headReasons section s =
 unfoldable pub openingReasons : ℕ → ℕ → List ℕ → List Reason
 openingReasons section least s = headReasons section s ++ (reason 5 (ltb (length s) least) ∷ [])
 
--- 11: the section has not its total
+-- 11: shorter than its total; the place is the first octet that is not there
+abbrev pub tooShort : ℕ → List ℕ → Reason
+tooShort total s = record { holds = ltb (length s) total; number = 11; place = length s + 1 }
+
+-- 21: longer than its total; the place is the first octet beyond it
+abbrev pub tooLong : ℕ → List ℕ → Reason
+tooLong total s = record { holds = ltb total (length s); number = 21; place = total + 1 }
+
+-- the section has not its total; 21 is tested here, where 11 is, and so before 13
 unfoldable pub totalReasons : ℕ → List ℕ → List Reason
-totalReasons total s = reason 11 (not (eqb (length s) total)) ∷ []
+totalReasons total s = tooShort total s ∷ tooLong total s ∷ []
 
 -- 8, at the place of the lowest bad field; a number that the section has of its own (9, 10), where 0 says that it is not met; then the total
 unfoldable pub fittingReasons : ℕ → ℕ → ℕ → List ℕ → List Reason

@@ -7,15 +7,19 @@ use mathlib.Core.Bool.{Bool, true, false, not, cond}
 use lib.Dec.{eqb}
 use Rattle.layout.specs.declared.Refusal.{Refusal}
 
+abbrev pub oneOf : List ℕ → ℕ → Bool
+oneOf [] n = false
+oneOf (m ∷ ms) n = cond (eqb n m) true (oneOf ms n)
+
 -- ---- the place
 
 -- the numbers with which a refusal has a place
 abbrev pub hasPlace : ℕ → Bool
-hasPlace number = eqb number 8
+hasPlace number = oneOf (8 ∷ 11 ∷ 21 ∷ []) number
 
--- a section has no octet past this one
+-- a section has at most 65,536 octets, and with 11 the place is the octet behind its last
 abbrev pub lastPlace : ℕ
-lastPlace = 65536
+lastPlace = 65537
 
 -- the place is 0, except with those numbers
 pub record PlaceKept (number place : ℕ) : Type 0 where
@@ -31,10 +35,6 @@ pub record Row : Type 0 where
 
 abbrev pub row : ℕ → List ℕ → Row
 row section numbers = record { section = section; numbers = numbers }
-
-abbrev pub oneOf : List ℕ → ℕ → Bool
-oneOf [] n = false
-oneOf (m ∷ ms) n = cond (eqb n m) true (oneOf ms n)
 
 -- the numbers of a section in a table
 abbrev pub numbersOf : List Row → ℕ → List ℕ
@@ -55,9 +55,10 @@ headNumbers = 1 ∷ 2 ∷ 3 ∷ 4 ∷ []
 abbrev pub openingNumbers : List ℕ
 openingNumbers = 5 ∷ headNumbers
 
--- once the template is known, beside the section's own
+-- once the template is known, beside the section's own; 11 is one of those, since 7 catches every section that is too short where the smallest
+-- total is the total
 abbrev pub fittingNumbers : List ℕ
-fittingNumbers = 8 ∷ 11 ∷ []
+fittingNumbers = 8 ∷ 21 ∷ []
 
 abbrev pub templateNumbers : List ℕ
 templateNumbers = 7 ∷ fittingNumbers

@@ -94,12 +94,24 @@ pub fn fitting_refusal(s: &[u8], section: u8, bad: usize, own: u8, total: usize)
     total_refusal(s, section, total)
 }
 
-// 11: the section has not its total.
+// 11: the section is shorter than its total, and the place is the first octet that is not there. 21: it is longer, and the place is the
+// first octet beyond. Neither sum can pass a usize, since the other side is greater.
 fn total_refusal(s: &[u8], section: u8, total: usize) -> Refusal
     ensures { λ r. ⌜ r ≡ firstRefusal section (totalReasons total (now (s .entry))) ⌝ }
 {
-    if s.len() != total {
-        return Refusal::of(11, section);
+    if s.len() < total {
+        return Refusal {
+            number: 11,
+            section,
+            place: s.len() + 1,
+        };
+    }
+    if total < s.len() {
+        return Refusal {
+            number: 21,
+            section,
+            place: total + 1,
+        };
     }
     Refusal::none()
 }

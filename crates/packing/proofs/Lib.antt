@@ -7,5 +7,6 @@ pub mod Runs
 pub mod Unpacks
 pub mod Entries
 pub mod RefusalNumbers
+pub mod ShortOrLong
 pub mod MeansByName
 pub mod UnpackedExactlyWhen

@@ -1,6 +1,7 @@
 -- A refusal of section 5, of section 7 or of unpacking has a number, a section and a place as document 01 has them.
 -- Assumes nothing.
 use Prim.Native.Nat.{ℕ, _≤_}
+use native.Mathlib.Omega.{arith}
 use mathlib.Core.Path.{_≡_, refl}
 use mathlib.Core.List.{List}
 use mathlib.Core.Bool.{not}
@@ -29,7 +30,7 @@ unfolding outcome₅ asSimple
 refuses₅ s =
     opening-refuses table₅ 5 11 s _ refl
     (λ small. reason-refuses table₅ 5 6 (not (eqb (beAt s 10 2) 0)) (asSimple s) refl refl
-    (template-refuses table₅ 5 21 _ 0 21 s _ refl refl refl (bad₅ s) small tt))
+    (template-refuses table₅ 5 21 _ 0 21 s _ refl (λ h. absurd (omega (arith, h))) refl refl (bad₅ s) small tt))
 
 pub refuses₇ : (n bits : ℕ) (s : List ℕ) → Refuses table₇ (outcome₇ n bits s)
 unfolding outcome₇

@@ -10,8 +10,8 @@ use Rattle.packing.specs.Packed.{bitAt, bitsFrom, packedAt, unpacked}
 use Rattle.packing.specs.Section5.{fields₅, asSimple, outcome₅}
 use Rattle.packing.specs.Section7.{fields₇alone, outcome₇}
 use Rattle.packing.specs.Unpacking.{unpackOutcome, rowAfter}
-use Rattle.packing.specs.Examples.{starredPacking}
+use Rattle.packing.specs.Examples.{starredPacking, endPackings}
 
-pub packing-agrees : AllAgree starredPacking
+pub packing-agrees : AllAgree starredPacking × AllAgree endPackings
 unfolding AllAgree part be beAt digits signOf between placed valuesOf lowestBad firstOf openingReasons totalReasons fittingReasons templateReasons andThen unpacked eachFrom packedAt bitsFrom bitAt fields₅ asSimple outcome₅ fields₇alone outcome₇ unpackOutcome rowAfter
-packing-agrees = (refl, (refl, (refl, (refl, (refl, tt)))))
+packing-agrees = ((refl, (refl, (refl, (refl, (refl, tt))))), (refl, (refl, (refl, tt))))

@@ -6,7 +6,8 @@ use lib.ListN.{replicate}
 use lib.IntN.{ℤ, pos}
 use Rattle.octets.specs.Octets.{digits}
 use Rattle.layout.specs.Fields.{wholeIn}
-use Rattle.layout.specs.Examples.{Example, answered}
+use Rattle.layout.specs.Examples.{Example, answered, refusedAt, filledUp}
+use Rattle.packing.specs.Section5.{outcome₅}
 use Rattle.packing.specs.Section7.{outcome₇}
 use Rattle.packing.specs.Unpacking.{unpackOutcome, rowAfter}
 
@@ -32,3 +33,10 @@ starredPacking =
     ∷ record { made = answered (map wholeIn) (unpackOutcome three5 three7 (replicate 3 0)); stated = pos 3 ∷ [] }
     ∷ record { made = map pos (rowAfter three5 three7 (replicate 3 0)); stated = pos 1 ∷ pos 17 ∷ pos 2 ∷ [] }
     ∷ []
+
+-- ---- short or long
+
+-- so many octets of a section 5 for no values; its total is 21
+abbrev pub endPackings : List Example
+endPackings =
+    refusedAt 7 5 0 (outcome₅ (filledUp 20 (5 ∷ []))) ∷ refusedAt 21 5 22 (outcome₅ (filledUp 22 (5 ∷ []))) ∷ refusedAt 21 5 22 (outcome₅ (filledUp 65536 (5 ∷ []))) ∷ []

@@ -23,7 +23,7 @@ valuesAt s = beAt s 6 4
 abbrev pub bitsAt : List ℕ → ℕ
 bitsAt s = beAt s 20 1
 
--- 7, 8 and 11, once the template is known
+-- 7, 8 and the total's 21, once the template is known; 7 leaves nothing to 11
 unfoldable pub asSimple : List ℕ → Outcome
 asSimple s = firstOf 5 (templateReasons 21 (badPlace (after 0 fields₅) s) 0 21 s) (read (valuesOf (after 0 fields₅) s))
 

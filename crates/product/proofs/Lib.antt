@@ -8,3 +8,4 @@ pub mod AnswersDetermined
 pub mod MeansByName
 pub mod Entries
 pub mod RefusalNumbers
+pub mod ShortOrLong

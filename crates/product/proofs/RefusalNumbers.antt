@@ -45,7 +45,7 @@ by-template (isListed kind timed) s small =
     let no-ranges = timed && eqb (rangesAt kind timed s) 0 in
     let listed = either (λ (n : ℕ). oneOf (0 ∷ numbers₄) n ≡ true) no-ranges refl refl in
     let no-place = either (λ (n : ℕ). hasPlace n ≡ false) no-ranges refl refl in
-    template-refuses table₄ 4 (total kind timed 1 0 0) _ (lackOfRanges timed (rangesAt kind timed s)) (totalIn kind timed s) s (read (values₄ kind timed s)) refl listed no-place (bad₄ kind timed _ _ _ s) small tt
+    template-refuses table₄ 4 (total kind timed 1 0 0) _ (lackOfRanges timed (rangesAt kind timed s)) (totalIn kind timed s) s (read (values₄ kind timed s)) refl (λ h. refl) listed no-place (bad₄ kind timed _ _ _ s) small tt
 
 pub refuses₄ : (s : List ℕ) → Refuses table₄ (outcome₄ s)
 unfolding outcome₄

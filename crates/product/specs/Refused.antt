@@ -5,7 +5,7 @@ use mathlib.Core.List.{List, [], _∷_}
 use Rattle.layout.specs.Refusals.{Row, row, sharedNumbers}
 
 abbrev pub numbers₄ : List ℕ
-numbers₄ = 9 ∷ sharedNumbers
+numbers₄ = 9 ∷ 11 ∷ sharedNumbers
 
 abbrev pub table₄ : List Row
 table₄ = row 4 numbers₄ ∷ []

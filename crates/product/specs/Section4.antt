@@ -15,7 +15,7 @@ use Rattle.product.specs.declared.templates.Template.the-variants.{NotLi
 use Rattle.product.specs.declared.Answer.{Answer}
 use Rattle.product.specs.declared.Answer.the-variants.{Read, Refused}
 
--- 7, 8, 9 and 11, once the template is known; the smallest total has n = 1, no member and no coordinate
+-- 7, 8, 9 and the total's 11 and 21, once the template is known; the smallest total has n = 1, no member and no coordinate
 unfoldable pub asTemplate : PartKind → Bool → List ℕ → Outcome
 asTemplate kind timed s =
     firstOf 4 (templateReasons (total kind timed 1 0 0) (badPlace (after 0 (fieldsIn kind timed s)) s) (lackOfRanges timed (rangesAt kind timed s)) (totalIn kind timed s) s)

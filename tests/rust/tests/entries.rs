@@ -86,10 +86,9 @@ fn month_0_is_8_at_15() {
 
 #[test]
 fn totals_of_the_document() {
-    let total_differs = refused(11, 4, 0);
     assert_eq!(answer_of(4, &section4(8, 78, 2, 2, 0)), Answer::Done);
-    assert_eq!(answer_of(4, &section4(8, 77, 2, 2, 0)), total_differs);
-    assert_eq!(answer_of(4, &section4(8, 79, 2, 2, 0)), total_differs);
+    assert_eq!(answer_of(4, &section4(8, 77, 2, 2, 0)), refused(11, 4, 78));
+    assert_eq!(answer_of(4, &section4(8, 79, 2, 2, 0)), refused(21, 4, 79));
     assert_eq!(answer_of(4, &section4(11, 61, 0, 1, 0)), Answer::Done);
     assert_eq!(answer_of(4, &section4(11, 58, 0, 1, 0)), refused(7, 4, 0));
     assert_eq!(answer_of(4, &section4(14, 93, 0, 1, 5)), Answer::Done);

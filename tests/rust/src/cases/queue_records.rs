@@ -33,11 +33,11 @@ fn month_0() -> Vec<u8> {
 struct Bad {
     at: usize,
     section: Vec<u8>,
-    told: (u8, u8, u8),
+    told: (u8, u8, u32),
 }
 
 /// Refused by its own reader: places 0 to 4 are sections 1, 3, 4, 5 and 7.
-fn bad(number: u8, at: usize, section: Vec<u8>, place: u8) -> Bad {
+fn bad(number: u8, at: usize, section: Vec<u8>, place: u32) -> Bad {
     let told = (number, [1, 3, 4, 5, 7][at], place);
     Bad { at, section, told }
 }
@@ -62,7 +62,8 @@ fn bad_of_section1() -> Vec<Bad> {
         bad(8, ONE, plain(&[(19, 60)]), 19),
         bad(8, ONE, with_years(1, 2024, 65535), 24),
         bad(8, ONE, with_years(2, 2024, 65535), 25),
-        bad(11, ONE, sized(&of_0, 27), 0),
+        bad(21, ONE, sized(&of_0, 25), 25),
+        bad(21, ONE, sized(&of_0, 27), 25),
     ]
 }
 
@@ -105,7 +106,9 @@ fn bad_of_section3() -> Vec<Bad> {
             0,
         ),
         bad(10, THREE, interpretation(1), 0),
-        bad(11, THREE, sized(&three, 73), 0),
+        bad(11, THREE, sized(&listed.octets(), 77), 78),
+        bad(21, THREE, sized(&listed.octets(), 79), 79),
+        bad(21, THREE, sized(&three, 73), 73),
         bad(13, THREE, grid(0).points_are(13), 0),
         bad(13, THREE, listed.points_are(12), 0),
     ]
@@ -124,8 +127,9 @@ fn bad_of_section4() -> Vec<Bad> {
         bad(8, FOUR, with_numbers(8, &[(35, 65535)]), 35),
         bad(8, FOUR, with_numbers(8, &[(41, 60)]), 41),
         bad(9, FOUR, with_numbers(8, &[(42, 0)]), 0),
-        bad(11, FOUR, sized(&four, 35), 0),
-        bad(11, FOUR, sized(&listed, 77), 0),
+        bad(11, FOUR, sized(&listed, 77), 78),
+        bad(21, FOUR, sized(&listed, 79), 79),
+        bad(21, FOUR, sized(&four, 35), 35),
     ]
 }
 
@@ -145,7 +149,7 @@ fn bad_of_sections_5_and_7() -> Vec<Bad> {
         bad(6, FIVE, with(&good_5, &[(11, 40)]), 0),
         bad(7, FIVE, sized(&good_5, 20), 0),
         bad(8, FIVE, five(12, 33), 20),
-        bad(11, FIVE, sized(&good_5, 22), 0),
+        bad(21, FIVE, sized(&good_5, 22), 22),
         bad(14, FIVE, five(11, 3), 0),
         points_differ,
         bad(15, SEVEN, seven(&[0, 1, 2, 3]), 0),
@@ -371,7 +375,7 @@ fn first_section_that_is_refused(cases: &mut Queues) {
     let bad = [
         (ONE, month_0(), "8 1 15"),
         (THREE, grid(0).points_are(13), "13 3 0"),
-        (FOUR, sized(&smallest(0), 35), "11 4 0"),
+        (FOUR, sized(&smallest(0), 35), "21 4 35"),
         (FIVE, five(11, 3), "14 5 0"),
         (SEVEN, seven(&[]), "15 7 0"),
     ];

@@ -68,6 +68,20 @@ fn lengths(cases: &mut Cases) {
     case(cases, shows, resized(&s, 65537));
 }
 
+/// 7 catches what is shorter than the template's total.
+fn short_or_long(cases: &mut Cases) {
+    for (t, total) in [(0, 24), (1, 25), (2, 26)] {
+        for (length, stated) in [
+            (total - 1, "refused 7 1 0 ".to_string()),
+            (total + 1, format!("refused 21 1 {} ", total + 1)),
+            (65536, format!("refused 21 1 {} ", total + 1)),
+        ] {
+            let asked = Asked::Section(1, sized(&of_template(Some(t)), length));
+            cases.stated("short or long, with the place", asked, &stated);
+        }
+    }
+}
+
 fn numbers(cases: &mut Cases) {
     let s = of_template(Some(0));
     for number in [0, 2, 3, 7, 129, 255] {
@@ -162,6 +176,7 @@ pub fn add(cases: &mut Cases) {
         case(cases, "each form", of_template(template));
     }
     lengths(cases);
+    short_or_long(cases);
     numbers(cases);
     times(cases);
     years(cases);

@@ -207,6 +207,43 @@ fn lengths(cases: &mut Cases) {
     }
 }
 
+/// By one octet, also where the section is as long as one may be, and by more.
+fn short_or_long(cases: &mut Cases) {
+    let mut case = |s, stated: &str| {
+        let shows = "short or long, with the place";
+        cases.stated(shows, Asked::Section(3, s), stated);
+    };
+    let listed = with_list(0, 2, &[4, 6, 4], Without::Ni).octets();
+    case(sized(&listed, 72), "refused 11 3 73 ");
+    case(sized(&listed, 77), "refused 11 3 78 ");
+    case(sized(&listed, 79), "refused 21 3 79 ");
+    case(sized(&listed, 65536), "refused 21 3 79 ");
+    for (t, base_end) in [(0, 72), (1, 84), (2, 84), (3, 96)] {
+        let s = grid(t).octets();
+        let longer = format!("refused 21 3 {} ", base_end + 1);
+        case(sized(&s, base_end - 1), "refused 7 3 0 ");
+        case(sized(&s, base_end + 1), &longer);
+        case(sized(&s, 65536), &longer);
+        let list = |total| with_list(t, 1, &long_list(total - base_end), Without::Nj);
+        case(sized(&list(65535).octets(), 65536), "refused 21 3 65536 ");
+        case(sized(&list(65537).octets(), 65536), "refused 11 3 65537 ");
+    }
+}
+
+/// 21 is above 13, and is tested where 11 is.
+fn before_the_points(cases: &mut Cases) {
+    let listed = with_list(0, 2, &[4, 6, 4], Without::Ni).points_are(12);
+    for (s, stated) in [
+        (sized(&grid(1).points_are(1), 85), "refused 21 3 85 "),
+        (sized(&listed, 77), "refused 11 3 78 "),
+        (sized(&listed, 79), "refused 21 3 79 "),
+        (listed.clone(), "refused 13 3 0 "),
+    ] {
+        let shows = "several reasons: 11 and 21 before 13";
+        cases.stated(shows, Asked::Section(3, s), stated);
+    }
+}
+
 fn numbers(cases: &mut Cases) {
     for number in [0, 1, 2, 4, 131, 255] {
         let s = grid(0).with(&[(5, number)]);
@@ -492,7 +529,6 @@ fn several(cases: &mut Cases) {
         sized(&grid(0).with(&[(6, 1)]), 71),
         no_ni(1).with(&[(60, ONES)]),
         sized(&no_ni(1).octets(), 90),
-        sized(&grid(1).points_are(1), 85),
         no_ni(1).points_are(1),
         Grid {
             nj: 3,
@@ -511,6 +547,8 @@ pub fn add(cases: &mut Cases) {
     examples_of_document(cases);
     templates(cases);
     lengths(cases);
+    short_or_long(cases);
+    before_the_points(cases);
     numbers(cases);
     front(cases);
     counts(cases);

@@ -57,8 +57,8 @@ fn examples_of_document(cases: &mut Cases) {
     };
     let listed = section(8, 2, 0, 2);
     example(listed.clone(), "read 27 78 4 ");
-    example(sized(&listed, 77), "refused 11 4 0 ");
-    example(sized(&listed, 79), "refused 11 4 0 ");
+    example(sized(&listed, 77), "refused 11 4 78 ");
+    example(sized(&listed, 79), "refused 21 4 79 ");
     example(smallest(11), "read 30 61 4 ");
     example(sized(&smallest(11), 58), "refused 7 4 0 ");
     example(section(14, 1, 5, 0), "read 42 93 4 ");
@@ -127,6 +127,27 @@ fn lengths(cases: &mut Cases) {
     }
     let shows = "a length of 65,537 that octets 1-4 deny";
     case(cases, shows, resized(&s, 65537));
+}
+
+/// By one octet, also where the section is as long as one may be, and by more.
+fn short_or_long(cases: &mut Cases) {
+    let mut case = |s, stated: &str| {
+        let shows = "short or long, with the place";
+        cases.stated(shows, Asked::Section(4, s), stated);
+    };
+    for template in TEMPLATES {
+        let whole = section(template.number, 2, 3, 2);
+        let total = whole.len();
+        let longer = format!("refused 21 4 {} ", total + 1);
+        case(sized(&whole, total - 1), &format!("refused 11 4 {total} "));
+        case(sized(&whole, total + 1), &longer);
+        case(sized(&whole, 65536), &longer);
+    }
+    // 37 + 4 x 16,375 octets, and 47 + 4 x 16,372.
+    let (of_65537, of_65535) = (section(1, 1, 0, 16375), section(5, 1, 0, 16372));
+    case(sized(&of_65537, 65536), "refused 11 4 65537 ");
+    case(sized(&of_65537, 65535), "refused 11 4 65536 ");
+    case(sized(&of_65535, 65536), "refused 21 4 65536 ");
 }
 
 fn numbers(cases: &mut Cases) {
@@ -247,6 +268,7 @@ pub fn add(cases: &mut Cases) {
     examples_of_document(cases);
     counts(cases);
     lengths(cases);
+    short_or_long(cases);
     numbers(cases);
     forecast_times(cases);
     intervals(cases);

@@ -94,6 +94,18 @@ fn section5(cases: &mut Cases) {
     }
 }
 
+/// 7 catches what is shorter than 21 octets.
+fn short_or_long(cases: &mut Cases) {
+    for (length, stated) in [
+        (20, "refused 7 5 0 "),
+        (22, "refused 21 5 22 "),
+        (65536, "refused 21 5 22 "),
+    ] {
+        let asked = Asked::Section(5, sized(&five(14, 9), length));
+        cases.stated("short or long, with the place", asked, stated);
+    }
+}
+
 /// So many octets in which only this bit is set.
 fn single_bit(octets: usize, bit: usize) -> Vec<u8> {
     let mut packed = vec![0; octets];
@@ -201,6 +213,7 @@ pub fn add(cases: &mut Cases) {
     let rng = &mut Rng::of_input(SEED, 0);
     examples_of_document(cases);
     section5(cases);
+    short_or_long(cases);
     every_width(cases, rng);
     single_bits_and_spare_ones(cases, rng);
     refusals(cases);

@@ -1,5 +1,5 @@
 //! Ways to damage a section or a queue.
-use super::sections::{close, edge, put};
+use super::sections::{close, edge, put, MISSING};
 use super::Rng;
 use crate::reference::octets::number;
 use crate::reference::table::{rows, Field};
@@ -144,6 +144,32 @@ pub fn swell_section(rng: &mut Rng, s: &mut Vec<u8>) {
     close_if_any(s);
 }
 
+/// As long as a section may be, where a list of as many numbers as fit, or of one more, follows: so it is whole, short or long by a few octets.
+fn fill_to_the_limit(rng: &mut Rng, s: &mut Vec<u8>) {
+    let fields = fields_of(s);
+    let value = |field: &Field| number(s, field.first, field.last);
+    let named = |name| fields.iter().find(|field| field.name == name);
+    let (width, count) = match (named("NV"), named("list width").map(value)) {
+        (Some(coordinates), _) => (4, coordinates),
+        (_, Some(width @ 1..=4)) => {
+            let counts = [named("Ni"), named("Nj")].into_iter().flatten();
+            let Some(count) = counts.filter(|&count| value(count) != MISSING).last() else {
+                return;
+            };
+            (width, count)
+        }
+        _ => return,
+    };
+    let listed = value(count).saturating_mul(width);
+    let Some(before) = (s.len() as u64).checked_sub(listed) else {
+        return;
+    };
+    let numbers = (MOST_OCTETS as u64 - before) / width + rng.below(2) as u64;
+    put(s, count.first, count.last, numbers);
+    s.resize(MOST_OCTETS, rng.octet());
+    close(s);
+}
+
 fn change_length_octets(rng: &mut Rng, s: &mut [u8]) {
     if s.len() >= 4 {
         let length = number(s, 1, 4);
@@ -188,7 +214,8 @@ pub fn damage_inside(rng: &mut Rng, s: &mut Vec<u8>) {
 pub fn damage(rng: &mut Rng, s: &mut Vec<u8>) {
     match rng.below(200) {
         0 => swell_section(rng, s),
-        1..=10 => change_length_octets(rng, s),
+        1 => fill_to_the_limit(rng, s),
+        2..=10 => change_length_octets(rng, s),
         11..=20 => cut(rng, s),
         21..=28 => extend(rng, s),
         29..=34 => flip(rng, s),

@@ -1,5 +1,5 @@
 //! Section 3.
-use super::head::{look_at_head, look_up, HEAD};
+use super::head::{look_at_head, look_at_total, look_up, HEAD};
 use super::octets::number;
 use super::table::{self, block, octet, span, Block, Field, Record, Rule};
 use super::{refuse_if, Outcome};
@@ -156,7 +156,7 @@ pub fn read(s: &[u8]) -> Outcome<Grid> {
     let record = table::read(s, SECTION, template.blocks)?;
     refuse_if(!agree(&record), 10, SECTION)?;
     let list = list_of(&record, template.base_end);
-    refuse_if(s.len() as u64 != list.total(), 11, SECTION)?;
+    look_at_total(s, SECTION, list.total())?;
     let points = record.number(POINTS_AT) as u64;
     refuse_if(points != points_by_counts(s, &record, list), 13, SECTION)?;
     Ok(Grid {
@@ -219,6 +219,6 @@ mod tests {
     fn a_list_that_is_too_long_by_its_count() {
         let mut s = listed(14);
         s[34..38].copy_from_slice(&[255, 255, 255, 254]);
-        assert_eq!(refusal(&s), (11, 0));
+        assert_eq!(refusal(&s), (11, 79));
     }
 }

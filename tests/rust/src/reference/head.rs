@@ -1,7 +1,8 @@
-//! What comes before the fields in each section: refusals 1 to 7.
+//! What the sections share beside their fields: refusals 1 to 7, and the total's 11 and 21.
 use super::octets::number;
 use super::table::{octet, span, Field, Rule};
 use super::{refuse_if, Outcome, Refusal, MOST_OCTETS};
+use std::cmp::Ordering;
 
 /// The two fields that every section begins with.
 pub const HEAD: &[Field] = &[
@@ -32,4 +33,22 @@ pub fn look_up<T>(
     let entry = found.ok_or(Refusal::of_section(6, section))?;
     refuse_if(s.len() < number_and_smallest(entry).1, 7, section)?;
     Ok(entry)
+}
+
+/// Refusals 11 and 21: shorter than the total, at the first octet that is not there; longer, at the first octet beyond it.
+pub fn look_at_total(s: &[u8], section: u8, total: u64) -> Outcome<()> {
+    let length = s.len() as u64;
+    let behind = |number, octet: u64| {
+        let place = octet as u32 + 1;
+        Err(Refusal {
+            number,
+            section,
+            place,
+        })
+    };
+    match length.cmp(&total) {
+        Ordering::Less => behind(11, length),
+        Ordering::Equal => Ok(()),
+        Ordering::Greater => behind(21, total),
+    }
 }

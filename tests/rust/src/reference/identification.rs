@@ -1,5 +1,5 @@
 //! Section 1.
-use super::head::{look_at_head, look_up, HEAD};
+use super::head::{look_at_head, look_at_total, look_up, HEAD};
 use super::table::{self, block, octet, span, Block, Field, Record, Rule};
 use super::{refuse_if, Outcome};
 
@@ -150,7 +150,7 @@ pub fn read(s: &[u8]) -> Outcome<Identification> {
     look_at_head(s, SECTION)?;
     let form = form_of(s)?;
     let record = table::read(s, SECTION, form.blocks)?;
-    refuse_if(s.len() != form.total, 11, SECTION)?;
+    look_at_total(s, SECTION, form.total as u64)?;
     let offset = form.offset_at.map_or(0, |at| record.number(at));
     Ok(Identification {
         real_year: record.number(YEAR_AT) + 10_000 * offset,
@@ -209,7 +209,8 @@ mod tests {
         assert_eq!(refusal(&section([7, 0xe8], 3, &[0])).number, 5);
         assert_eq!(refusal(&section([7, 0xe8], 3, &[0, 3])).number, 6);
         assert_eq!(refusal(&section([7, 0xe8], 3, &[0, 0])).number, 7);
-        assert_eq!(refusal(&section([7, 0xe8], 3, &[0, 0, 0, 0])).number, 11);
+        let tail = refusal(&section([7, 0xe8], 3, &[0, 0, 0, 0]));
+        assert_eq!((tail.number, tail.place), (21, 25));
     }
 
     #[test]

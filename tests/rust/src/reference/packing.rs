@@ -1,5 +1,5 @@
 //! Sections 5 and 7, and unpacking.
-use super::head::{look_at_head, look_up, HEAD};
+use super::head::{look_at_head, look_at_total, look_up, HEAD};
 use super::table::{self, block, octet, span, Block, Field, Record, Rule};
 use super::{refuse_if, Outcome, Refusal};
 
@@ -46,7 +46,7 @@ pub fn read(s: &[u8]) -> Outcome<Packing> {
         (template.number, template.total)
     })?;
     let record = table::read(s, SECTION, template.blocks)?;
-    refuse_if(s.len() != template.total, 11, SECTION)?;
+    look_at_total(s, SECTION, template.total as u64)?;
     Ok(Packing {
         values: record.number(VALUES_AT) as u64,
         bits: record.number(BITS_AT) as u64,

@@ -1,5 +1,5 @@
 //! Section 4.
-use super::head::{look_at_head, look_up, HEAD};
+use super::head::{look_at_head, look_at_total, look_up, HEAD};
 use super::identification::MONTH_TO_SECOND;
 use super::table::{self, block, octet, shifted, span, Block, Field, Record, Rule};
 use super::{refuse_if, Outcome};
@@ -317,7 +317,7 @@ pub fn read(s: &[u8]) -> Outcome<Product> {
     let record = table::read(s, SECTION, template.blocks)?;
     let tail = tail_of(&record, template);
     refuse_if(template.n_at.is_some() && tail.n == 0, 9, SECTION)?;
-    refuse_if(s.len() != tail.total(), 11, SECTION)?;
+    look_at_total(s, SECTION, tail.total() as u64)?;
     Ok(Product { record, tail })
 }
 
@@ -326,8 +326,10 @@ mod tests {
     use super::*;
     use crate::examples::section4 as section;
 
-    fn number(s: &[u8]) -> u8 {
-        read(s).err().map_or(0, |refusal| refusal.number)
+    /// Number and place of the refusal; zeros for none.
+    fn refusal(s: &[u8]) -> (u8, u32) {
+        let refused = read(s).err();
+        refused.map_or((0, 0), |refusal| (refusal.number, refusal.place))
     }
 
     #[test]
@@ -357,13 +359,13 @@ mod tests {
 
     #[test]
     fn totals_of_the_document() {
-        assert_eq!(number(&section(8, 78, 2, 2, 0)), 0);
-        assert_eq!(number(&section(8, 77, 2, 2, 0)), 11);
-        assert_eq!(number(&section(8, 79, 2, 2, 0)), 11);
-        assert_eq!(number(&section(11, 61, 0, 1, 0)), 0);
-        assert_eq!(number(&section(11, 58, 0, 1, 0)), 7);
-        assert_eq!(number(&section(14, 93, 0, 1, 5)), 0);
-        assert_eq!(number(&section(4, 64, 0, 0, 0)), 0);
+        assert_eq!(refusal(&section(8, 78, 2, 2, 0)), (0, 0));
+        assert_eq!(refusal(&section(8, 77, 2, 2, 0)), (11, 78));
+        assert_eq!(refusal(&section(8, 79, 2, 2, 0)), (21, 79));
+        assert_eq!(refusal(&section(11, 61, 0, 1, 0)), (0, 0));
+        assert_eq!(refusal(&section(11, 58, 0, 1, 0)), (7, 0));
+        assert_eq!(refusal(&section(14, 93, 0, 1, 5)), (0, 0));
+        assert_eq!(refusal(&section(4, 64, 0, 0, 0)), (0, 0));
     }
 
     #[test]

@@ -2,13 +2,14 @@
 use crate::lent::{
     damaged_by_chance, difference_of_answers, exact, hex, places_about, report, Lent,
 };
-use crate::tally::{template_kind, Tally, GREATEST_PRODUCT};
+use crate::tally::{at_the_limit, by_one_octet, template_kind, Tally, GREATEST_PRODUCT};
 use skogmund_tests::entries::{self, Answer};
+use skogmund_tests::generate::damage::close_if_any;
 use skogmund_tests::generate::sections::{self, Size};
 use skogmund_tests::generate::Rng;
 use skogmund_tests::reference::entries::VALUES;
 use skogmund_tests::reference::octets::number;
-use skogmund_tests::reference::{self, grid, Outcome, Refusal};
+use skogmund_tests::reference::{self, grid, Outcome, Refusal, MOST_OCTETS};
 
 const SECTIONS: &[u8] = &[1, 3, 4, 5, 7];
 
@@ -57,6 +58,27 @@ fn has_greatest_product(s: &[u8], refusal: Refusal) -> bool {
         && number(s, grid::NI_AT, 34) * number(s, grid::NJ_AT, 38) >= 1 << 63
 }
 
+/// Whether one octet more, or one less, would be the total, or a total of which another rule speaks.
+fn is_by_one(s: &[u8], refusal: Refusal) -> bool {
+    let mut other = s.to_vec();
+    match refusal.number {
+        11 => other.push(0),
+        _ => other.truncate(s.len() - 1),
+    }
+    close_if_any(&mut other);
+    let refused = reference::read(refusal.section, &other).err();
+    !refused.is_some_and(|refused| matches!(refused.number, 2 | 11 | 21))
+}
+
+/// How far a section is from its total, and whether it is as long as one may be.
+fn tally_total(tally: &mut Tally, s: &[u8], refusal: Refusal) {
+    if s.len() == MOST_OCTETS {
+        tally.kind(&at_the_limit(refusal));
+    } else if is_by_one(s, refusal) {
+        tally.kind(&by_one_octet(refusal));
+    }
+}
+
 fn tally_read(tally: &mut Tally, asked: u8, s: &[u8], owed: &Outcome<Vec<i64>>) {
     tally.length(s);
     if !SECTIONS.contains(&asked) {
@@ -66,6 +88,9 @@ fn tally_read(tally: &mut Tally, asked: u8, s: &[u8], owed: &Outcome<Vec<i64>>) 
     let values = match owed {
         Ok(values) => values,
         Err(refusal) if has_greatest_product(s, *refusal) => return tally.kind(GREATEST_PRODUCT),
+        Err(refusal) if matches!(refusal.number, 11 | 21) => {
+            return tally_total(tally, s, *refusal)
+        }
         Err(_) => return,
     };
     if values.contains(&i64::MIN) {

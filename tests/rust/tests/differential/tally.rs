@@ -74,35 +74,35 @@ impl Tally {
 /// come up in a queue.
 const EVERY_REFUSAL: &[(&str, u8, &[u8])] = &[
     ("read", 0, &[18]),
-    ("read", 1, &[1, 2, 3, 4, 5, 6, 7, 8, 11]),
-    ("read", 3, &[1, 2, 3, 4, 5, 6, 7, 8, 10, 11, 13]),
-    ("read", 4, &[1, 2, 3, 4, 5, 6, 7, 8, 9, 11]),
-    ("read", 5, &[1, 2, 3, 4, 5, 6, 7, 8, 11]),
+    ("read", 1, &[1, 2, 3, 4, 5, 6, 7, 8, 21]),
+    ("read", 3, &[1, 2, 3, 4, 5, 6, 7, 8, 10, 11, 21, 13]),
+    ("read", 4, &[1, 2, 3, 4, 5, 6, 7, 8, 9, 11, 21]),
+    ("read", 5, &[1, 2, 3, 4, 5, 6, 7, 8, 21]),
     ("read", 7, &[1, 2, 3, 4]),
     ("part", 0, &[18]),
-    ("part", 3, &[1, 2, 3, 4, 5, 6, 7, 8, 10, 11, 13]),
-    ("part", 4, &[1, 2, 3, 4, 5, 6, 7, 8, 9, 11]),
+    ("part", 3, &[1, 2, 3, 4, 5, 6, 7, 8, 10, 11, 21, 13]),
+    ("part", 4, &[1, 2, 3, 4, 5, 6, 7, 8, 9, 11, 21]),
     ("unpack", 0, &[18]),
-    ("unpack", 5, &[1, 2, 3, 4, 5, 6, 7, 8, 11]),
+    ("unpack", 5, &[1, 2, 3, 4, 5, 6, 7, 8, 21]),
     ("unpack", 7, &[1, 2, 3, 4, 15]),
     ("list", 0, &[2, 16, 18, 19, 20]),
-    ("list", 1, &[4, 5, 6, 7, 8, 11, 17]),
-    ("list", 3, &[4, 5, 6, 7, 8, 10, 11, 13]),
-    ("list", 4, &[4, 5, 6, 7, 8, 9, 11]),
-    ("list", 5, &[4, 5, 6, 7, 8, 11, 14]),
+    ("list", 1, &[4, 5, 6, 7, 8, 21, 17]),
+    ("list", 3, &[4, 5, 6, 7, 8, 10, 11, 21, 13]),
+    ("list", 4, &[4, 5, 6, 7, 8, 9, 11, 21]),
+    ("list", 5, &[4, 5, 6, 7, 8, 21, 14]),
     ("list", 7, &[4, 15]),
     ("empty", 0, &[18]),
     ("file", 0, &[16, 18, 19]),
-    ("file", 1, &[1, 2, 3, 4, 5, 6, 7, 8, 11, 17]),
-    ("file", 3, &[1, 2, 3, 4, 5, 6, 7, 8, 10, 11, 13]),
-    ("file", 4, &[1, 2, 3, 4, 5, 6, 7, 8, 9, 11]),
-    ("file", 5, &[1, 2, 3, 4, 5, 6, 7, 8, 11, 14]),
+    ("file", 1, &[1, 2, 3, 4, 5, 6, 7, 8, 21, 17]),
+    ("file", 3, &[1, 2, 3, 4, 5, 6, 7, 8, 10, 11, 21, 13]),
+    ("file", 4, &[1, 2, 3, 4, 5, 6, 7, 8, 9, 11, 21]),
+    ("file", 5, &[1, 2, 3, 4, 5, 6, 7, 8, 21, 14]),
     ("file", 7, &[1, 2, 3, 4, 15]),
     ("file_queue", 0, &[2, 16, 18, 19, 20]),
-    ("file_queue", 1, &[4, 5, 6, 7, 8, 11, 17]),
-    ("file_queue", 3, &[4, 5, 6, 7, 8, 10, 11, 13]),
-    ("file_queue", 4, &[4, 5, 6, 7, 8, 9, 11]),
-    ("file_queue", 5, &[4, 5, 6, 7, 8, 11, 14]),
+    ("file_queue", 1, &[4, 5, 6, 7, 8, 21, 17]),
+    ("file_queue", 3, &[4, 5, 6, 7, 8, 10, 11, 21, 13]),
+    ("file_queue", 4, &[4, 5, 6, 7, 8, 9, 11, 21]),
+    ("file_queue", 5, &[4, 5, 6, 7, 8, 21, 14]),
     ("file_queue", 7, &[4, 15]),
     ("join", 0, &[18]),
     ("slot", 0, &[16, 18]),
@@ -143,6 +143,23 @@ const KINDS: &[&str] = &[
     LONG,
 ];
 
+/// The total's refusals that each section can have: 7 catches sections 1 and 5 that are too short.
+const BY_TOTAL: &[(u8, u8)] = &[(11, 3), (11, 4), (21, 1), (21, 3), (21, 4), (21, 5)];
+
+pub fn by_one_octet(refusal: Refusal) -> String {
+    format!(
+        "read: {} of section {} by one octet",
+        refusal.number, refusal.section
+    )
+}
+
+pub fn at_the_limit(refusal: Refusal) -> String {
+    format!(
+        "read: {} of section {} of 65,536 octets",
+        refusal.number, refusal.section
+    )
+}
+
 /// 13 where Ni x Nj has all 64 bits.
 pub const GREATEST_PRODUCT: &str = "read: 13 for a product of all 64 bits";
 
@@ -164,7 +181,12 @@ fn every_kind() -> Vec<String> {
     let read = every_template().map(|(section, template)| template_kind("read", section, template));
     let with_parts = every_template().filter(|(section, _)| matches!(section, 3 | 4));
     let shown = with_parts.map(|(section, template)| template_kind("part", section, template));
+    let by_total = BY_TOTAL
+        .iter()
+        .map(|&(number, section)| Refusal::of_section(number, section));
+    let limits = by_total.flat_map(|refusal| [by_one_octet(refusal), at_the_limit(refusal)]);
     named
+        .chain(limits)
         .chain((0..=32).map(width_kind))
         .chain(read)
         .chain(shown)

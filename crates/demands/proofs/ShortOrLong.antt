@@ -1,0 +1,160 @@
+-- Request 01, "Short or long?", sentence by sentence.
+-- Assumes nothing.
+
+-- "Keep 11 for a section shorter than its total and give the longer one a number of its own. For 11 the place shall be the lent length plus one; for
+-- the other, the first octet beyond the total." and "21, a section longer than its total, tested where 11 is and naming its section": given that no
+-- lower refusal holds (`NoLower`), 11 exactly when shorter, 21 exactly when longer, each with its place, and accepted only when equal (`ByTotal`, both
+-- `layout/specs/Totals.antt`). It is one law over every section whose reasons, once its template is known, are `layout`'s with a total, and which
+-- then is refused with neither:
+pub use Rattle.layout.proofs.Totals.{behind-lower, template-by-total}
+-- "In 01's 4.8 example 79 octets becomes 21, place 79.": `starred-cases`.
+-- The rest are the theorems of this file.
+use Prim.Native.Nat.{ℕ, _+_, _*_, _≤_}
+use native.Mathlib.Omega.{arith}
+use mathlib.Core.Path.{_≡_, refl, sym, subst}
+use mathlib.Core.Bool.{true}
+use mathlib.Core.List.{List, _++_, List·Memᴰ}
+use lib.IntN.{ℤ}
+use lib.ListN.{length}
+use borrow.Author.Tests.{le-ltb}
+use Rattle.octets.specs.Octets.{beAt}
+use Rattle.layout.specs.Fields.{Value}
+use Rattle.layout.specs.Outcomes.{Outcome, refused, read, refusal, andThen}
+use Rattle.layout.specs.Totals.{NoLower, RefusedWith, ByTotal}
+use Rattle.layout.specs.Refusals.{Row}
+use Rattle.layout.specs.Examples.{AllAgree}
+use Rattle.layout.proofs.Refusals.{Refuses, lacks, never-listed}
+use Rattle.identification.specs.Section1 as one
+use Rattle.identification.specs.Accepted.{ReadBy}
+use Rattle.identification.specs.Refused.{table₁}
+use Rattle.identification.specs.declared.Answer.{Answer as Answer₁}
+use Rattle.identification.specs.declared.Template.{Template as Template₁}
+use Rattle.identification.proofs.RefusalNumbers.{refuses₁}
+use Rattle.identification.proofs.ShortOrLong.{short-or-long₁}
+use Rattle.identification.proofs.StarredYears.{years-agree}
+use Rattle.grid.specs.Templates.{total}
+use Rattle.grid.specs.Accepted.{numberOf}
+use Rattle.grid.specs.Section3 as three
+use Rattle.grid.specs.declared.Answer.{Answer as Answer₃}
+use Rattle.grid.specs.declared.templates.Template.{Template as Template₃}
+use Rattle.grid.proofs.ShortOrLong.{short-or-long₃}
+use Rattle.grid.proofs.StarredGrids.{grids-agree}
+use Rattle.product.specs.Section4 as four
+use Rattle.product.specs.Table.{TemplateRow, templates₄, countIn}
+use Rattle.product.specs.declared.Answer.{Answer as Answer₄}
+use Rattle.product.proofs.ShortOrLong.{short-or-long₄}
+use Rattle.product.proofs.StarredProducts.{products-agree}
+use Rattle.packing.specs.Section5 as five
+use Rattle.packing.specs.Section7.{outcome₇}
+use Rattle.packing.specs.Refused.{table₅, table₇}
+use Rattle.packing.specs.Unpacking.{unpackOutcome}
+use Rattle.packing.specs.declared.Answer.{Answer as Answer₅}
+use Rattle.packing.proofs.RefusalNumbers.{refuses₅, refuses₇}
+use Rattle.packing.proofs.ShortOrLong.{short-or-long₅}
+use Rattle.packing.proofs.StarredPacking.{packing-agrees}
+use Rattle.field.specs.Field.{FieldOutcome, refusedField, onward, packedOutcome, fieldOutcome}
+use Rattle.shelf.specs.declared.Shelf.{Shelf}
+use Rattle.filing.specs.Filing.{refusedFiling, ofField, filingOf, filedBy, issueFrom, filedOf}
+use Rattle.filing.specs.declared.Issue.{Issue}
+use Rattle.filing.specs.declared.Answer.the-variants.{Refused}
+use Rattle.queue.specs.Queues.{Sent, recordFiling, recordFiled}
+use Rattle.text.specs.Text.{ascii}
+use Rattle.report.specs.Texts.{spaced, ended, issueText, recordLine}
+use Rattle.values.specs.Records.{sectionOutcome, intoRow}
+use Rattle.shelf_octets.specs.ShelfOctets.{shelfIn}
+use Rattle.skogmund.specs.Entries.{code, rowUnpacked, recordTold}
+use Rattle.skogmund.specs.Shelves.{fieldKept, filedField}
+use Rattle.demands.specs.ShortOrLong.{shortOrLong}
+use Rattle.demands.proofs.Starred.{both}
+
+-- ---- so of each section that has a total, by the total that its own octets give, and of every answer that its reader's contract allows
+
+of-answer : {section total : ℕ} {s : List ℕ} {said o : Outcome} → said ≡ o → (NoLower o → ByTotal section total s o) → NoLower said → ByTotal section total s said
+of-answer {section} {total} {s} e law = subst (λ (x : Outcome). NoLower x → ByTotal section total s x) (sym e) law
+
+pub section-1-by-total : (template : Template₁) (s : List ℕ) (a : Answer₁) → one.told a ≡ one.outcome₁ s → ReadBy template s → NoLower (one.told a) → ByTotal 1 (one.total template) s (one.told a)
+section-1-by-total template s a e by = of-answer e (short-or-long₁ template s by)
+
+pub section-3-by-total : (template : Template₃) (s : List ℕ) (a : Answer₃) → three.told a ≡ three.outcome₃ s → beAt s 13 2 ≡ numberOf template → NoLower (three.told a) → ByTotal 3 (total template s) s (three.told a)
+section-3-by-total template s a e names = of-answer e (short-or-long₃ template s names)
+
+pub section-4-by-total : (row : TemplateRow) (s : List ℕ) (a : Answer₄) → four.told a ≡ four.outcome₄ s → List·Memᴰ row templates₄ → beAt s 8 2 ≡ row .number → NoLower (four.told a)
+    → ByTotal 4 (row .octets + 12 * countIn (row .ranges) s + countIn (row .members) s + 4 * beAt s 6 2) s (four.told a)
+section-4-by-total row s a e m names = of-answer e (short-or-long₄ row s m names)
+
+pub section-5-by-total : (s : List ℕ) (a : Answer₅) → five.told₅ a ≡ five.outcome₅ s → NoLower (five.told₅ a) → ByTotal 5 21 s (five.told₅ a)
+section-5-by-total s a e = of-answer e (short-or-long₅ s)
+
+-- 21 is tested where 11 is: 13 is given only where the section has its total
+pub section-3-points-last : (template : Template₃) (s : List ℕ) (a : Answer₃) → three.told a ≡ three.outcome₃ s → beAt s 13 2 ≡ numberOf template → RefusedWith 13 (three.told a) → length s ≡ total template s
+section-3-points-last template s a e names = by (three.told a) (section-3-by-total template s a e names)
+  where
+    by : (o : Outcome) → (NoLower o → ByTotal 3 (total template s) s o) → RefusedWith 13 o → length s ≡ total template s
+    by (refused number section place) law h = law (omega (arith, h)) .whole (λ x. omega (arith, h, x)) (λ x. omega (arith, h, x))
+    by (read vs) law h = absurd h
+
+-- sections 1 and 5 that are too short are caught by 5 or 7 and get no 11; section 7 gets neither, and keeps its 15
+
+never-refused : (number : ℕ) (table : List Row) (o : Outcome) → lacks number table ≡ true → Refuses table o → RefusedWith number o → ⊥
+never-refused number table (refused n section place) l r e = never-listed number table section l (rw e at (r .listed))
+never-refused number table (read vs) l r e = e
+
+pub section-1-never-11 : (s : List ℕ) → RefusedWith 11 (one.outcome₁ s) → ⊥
+section-1-never-11 s = never-refused 11 table₁ (one.outcome₁ s) refl (refuses₁ s)
+
+pub section-5-never-11 : (s : List ℕ) → RefusedWith 11 (five.outcome₅ s) → ⊥
+section-5-never-11 s = never-refused 11 table₅ (five.outcome₅ s) refl (refuses₅ s)
+
+pub section-7-neither : (n bits : ℕ) (s : List ℕ) → (RefusedWith 11 (outcome₇ n bits s) → ⊥) × (RefusedWith 21 (outcome₇ n bits s) → ⊥)
+section-7-neither n bits s =
+    (never-refused 11 table₇ (outcome₇ n bits s) refl (refuses₇ n bits s), never-refused 21 table₇ (outcome₇ n bits s) refl (refuses₇ n bits s))
+
+-- ---- both are met in every section that can have them, at the ends too
+
+pub ends-met : AllAgree shortOrLong
+ends-met = both _ _ (years-agree .1) (both _ _ (grids-agree .1) (both _ _ (products-agree .1) (packing-agrees .1)))
+
+-- ---- "Every caller that shows or passes on a refusal follows.": with whichever number, section and place a section is refused
+
+module _ (number section place : ℕ) where
+  -- a field: that of the first of its sections 1, 3, 4 and 5 that is refused
+  onto : (o rest : Outcome) (next : List Value → FieldOutcome) → ((vs : List Value) → rest ≡ refused number section place → next vs ≡ refusedField number section place) → andThen o rest ≡ refused number section place → onward o next ≡ refusedField number section place
+  unfolding andThen onward
+  onto (refused a b c) rest next q e = cc
+  onto (read vs) rest next q e = q vs e
+
+  pub field-hands-on : (s1 s3 s4 s5 s7 : List ℕ) → andThen (one.outcome₁ s1) (andThen (three.outcome₃ s3) (andThen (four.outcome₄ s4) (five.outcome₅ s5))) ≡ refused number section place → fieldOutcome s1 s3 s4 s5 s7 ≡ refusedField number section place
+  unfolding fieldOutcome packedOutcome onward
+  field-hands-on s1 s3 s4 s5 s7 =
+      onto (one.outcome₁ s1) _ _ (λ a. onto (three.outcome₃ s3) _ _ (λ b. onto (four.outcome₄ s4) _ _ (λ c e. rw e)))
+
+  -- filing it, to a slot that there is
+  pub filing-hands-on : (shelf : Shelf) (slot : ℕ) (issue : Issue) (s1 s3 s4 s5 s7 : List ℕ) → slot ≤ 63 → fieldOutcome s1 s3 s4 s5 s7 ≡ refusedField number section place
+      → filedOf shelf slot issue s1 s3 s4 s5 s7 .answer ≡ Refused (refusal number section place)
+  unfolding filedOf filingOf ofField filedBy
+  filing-hands-on shelf slot issue s1 s3 s4 s5 s7 small e = rw (le-ltb 63 slot small, e)
+
+  -- a record of a queue, whose five sections are filed so (`record-five-or-20`, demand 3)
+  pub record-hands-on : (shelf : Shelf) (r : Sent) → recordFiling r ≡ refusedFiling number section place → recordFiled shelf r .answer ≡ Refused (refusal number section place)
+  unfolding recordFiled filedBy
+  record-hands-on shelf r e = rw e
+
+  -- the explanation's line of it
+  pub line-shows : (k slot : ℕ) (issue : Issue) → recordLine k slot issue (Refused (refusal number section place)) ≡ spaced k ++ (spaced slot ++ (issueText issue ++ (ascii " refused " ++ (spaced number ++ (spaced section ++ ended place)))))
+  unfolding recordLine
+  line-shows k slot issue = refl
+
+  -- and for C: reading a section, unpacking by a section 5, filing a field
+  pub read-hands-on : (asked : ℕ) (s : List ℕ) (row : List ℤ) → sectionOutcome asked s ≡ refused number section place → recordTold asked s row .answer ≡ code number section place
+  unfolding recordTold intoRow
+  read-hands-on asked s row e = rw e
+
+  pub unpack-hands-on : (s5 s7 row : List ℕ) → five.outcome₅ s5 ≡ refused number section place → rowUnpacked s5 s7 row .answer ≡ code number section place
+  unfolding rowUnpacked unpackOutcome andThen
+  unpack-hands-on s5 s7 row e = rw e
+
+  pub file-hands-on : (s : List ℕ) (slot stored : ℕ) (s1 s3 s4 s5 s7 places : List ℕ) → stored ≤ 4294967296 → slot ≤ 63 → fieldOutcome s1 s3 s4 s5 s7 ≡ refusedField number section place
+      → filedField s slot stored s1 s3 s4 s5 s7 places .answer ≡ code number section place
+  unfolding filedField fieldKept
+  file-hands-on s slot stored s1 s3 s4 s5 s7 places small there e =
+      rw (le-ltb 4294967296 stored small, filing-hands-on (shelfIn s) slot (issueFrom stored) s1 s3 s4 s5 s7 there e)
