@@ -25,9 +25,10 @@ pub use Rattle.standard.proofs.Entries as standard-entries
 pub use Rattle.skogmund.proofs.Entries as skogmund-entries
 -- ".. and answers ..": for each answer type, any two answers that the contract allows for an input are one, with what was lent.
 pub use Rattle.demands.proofs.OneAnswer.{one-identification, one-grid, one-product, one-packing, one-data, one-field, one-unpacking, one-filing, one-answer, one-number, one-signed, one-time, one-written, one-done}
--- ".. or refuses with a number from document 01.": its table lists the number for the section, and the place is 0 except with 8,
--- and then an octet that a section can have. (`Refusal::of` makes the refusal that a caller names, and `fitting_refusal` hands the caller's
--- number on: `fitting-told` is of the numbers that the tables list, which the readers' theorems show of theirs.)
+-- ".. or refuses with a number from document 01.": its table lists the number for the section, and the place is 0 except with 8, 11
+-- and 21, and then an octet that a section can have or the one behind its last. (`Refusal::of` makes the refusal that a caller names, and
+-- `fitting_refusal` hands the caller's number on: `fitting-told` is of the numbers that the tables list, which the readers' theorems show of
+-- theirs.)
 pub use Rattle.layout.proofs.Refusals.{head-told, opening-told, fitting-told}
 pub use Rattle.identification.proofs.RefusalNumbers.{identification-refuses}
 pub use Rattle.grid.proofs.RefusalNumbers.{grid-refuses}

@@ -111,7 +111,7 @@ module _ (template : Template) (s : List ℕ) (width : hasList (listWidth s) ≡
 
 -- ---- accepted, so it follows
 
--- the reasons 10, 11 and 13 in plain words
+-- the reasons 10, 11, 21 and 13 in plain words
 module _ (template : Template) (s : List ℕ) (whole : length s ≡ total template s) (points : beAt s 7 4 ≡ pointsOf template s) where
   no-list-follows : listWidth s ≡ 0 → agreedWithoutList s ≡ true → NoList template s
   unfolding agreedWithoutList
@@ -189,7 +189,7 @@ accepted-follows s vs e =
 
 -- ---- it follows, so it is accepted
 
--- none of the reasons 10, 11 and 13, and octets 11 and 12 are in their ranges
+-- none of the reasons 10, 11, 21 and 13, and octets 11 and 12 are in their ranges
 pub record FitTogether (template : Template) (s : List ℕ) : Type 0 where
   pub width : (eqb (listWidth s) 0 || hasList (listWidth s)) ≡ true
   pub interpretation : beAt s 12 1 ≤ 2

@@ -31,7 +31,7 @@ pub enum Answer {
     Refused(Refusal),
 }
 
-// Reads a lent section 3, or refuses it with 1 to 8, 10, 11 or 13.
+// Reads a lent section 3, or refuses it with 1 to 8, 10, 11, 21 or 13.
 pub fn read(section: &[u8]) -> Answer
     ensures { λ r. ⌜ told r ≡ outcome₃ (now (section .entry)) ⌝ }
 {

@@ -56,7 +56,7 @@ pub enum Answer {
     Refused(Refusal),
 }
 
-// Reads a lent section 1, or refuses it with 1 to 8 or 11.
+// Reads a lent section 1, or refuses it with 1 to 8 or 21.
 pub fn read(section: &[u8]) -> Answer
     ensures { λ r. ⌜ told r ≡ outcome₁ (now (section .entry)) ⌝ }
 {

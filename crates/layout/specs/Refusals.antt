@@ -55,8 +55,8 @@ headNumbers = 1 ∷ 2 ∷ 3 ∷ 4 ∷ []
 abbrev pub openingNumbers : List ℕ
 openingNumbers = 5 ∷ headNumbers
 
--- once the template is known, beside the section's own; 11 is one of those, since 7 catches every section that is too short where the smallest
--- total is the total
+-- once the template is known, beside the section's own. 11 is one of those: where the template's smallest total is its only one, 7 catches every
+-- section that is too short
 abbrev pub fittingNumbers : List ℕ
 fittingNumbers = 8 ∷ 21 ∷ []
 

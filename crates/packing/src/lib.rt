@@ -43,7 +43,7 @@ pub enum Unpacked {
     Refused(Refusal),
 }
 
-// Reads a lent section 5, or refuses it with 1 to 8 or 11.
+// Reads a lent section 5, or refuses it with 1 to 8 or 21.
 pub fn read(section: &[u8]) -> Answer
     ensures { λ r. ⌜ told₅ r ≡ outcome₅ (now (section .entry)) ⌝ }
 {

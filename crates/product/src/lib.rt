@@ -42,7 +42,7 @@ pub enum Answer {
     Refused(Refusal),
 }
 
-// Reads a lent section 4, or refuses it with 1 to 9 or 11.
+// Reads a lent section 4, or refuses it with 1 to 9, 11 or 21.
 pub fn read(section: &[u8]) -> Answer
     ensures { λ r. ⌜ told r ≡ outcome₄ (now (section .entry)) ⌝ }
 {

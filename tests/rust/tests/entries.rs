@@ -95,6 +95,57 @@ fn totals_of_the_document() {
     assert_eq!(answer_of(4, &section4(4, 64, 0, 0, 0)), Answer::Done);
 }
 
+/// As many octets as a section may have, all 0 but these.
+fn longest(section: u8, octets: &[(usize, &[u8])]) -> Vec<u8> {
+    let mut s = vec![0; 65_536];
+    s[1] = 1;
+    s[4] = section;
+    for (at, some) in octets {
+        s[at - 1..][..some.len()].copy_from_slice(some);
+    }
+    s
+}
+
+/// 3.0 with a list of so many numbers of one octet: 72 octets and as many more.
+fn longest_list(count: u16) -> Vec<u8> {
+    let nj = [&[0, 0][..], &count.to_be_bytes()].concat();
+    longest(
+        3,
+        &[
+            (11, &[1, 1]),
+            (31, &[255; 4]),
+            (35, &nj),
+            (46, &[1]),
+            (64, &[255; 4]),
+        ],
+    )
+}
+
+/// 4.1 has 37 octets before its coordinate values, 4.5 has 47.
+fn longest_coordinates(template: u8, count: u16) -> Vec<u8> {
+    longest(4, &[(6, &count.to_be_bytes()), (9, &[template])])
+}
+
+#[test]
+fn short_or_long_at_the_limit() {
+    let one = longest(1, &[(15, &[1, 1])]);
+    assert_eq!(answer_of(1, &one), refused(21, 1, 25));
+    assert_eq!(answer_of(3, &longest_list(65_463)), refused(21, 3, 65_536));
+    assert_eq!(answer_of(3, &longest_list(65_465)), refused(11, 3, 65_537));
+    let (tail, clipped) = (
+        longest_coordinates(5, 16_372),
+        longest_coordinates(1, 16_375),
+    );
+    assert_eq!(answer_of(4, &tail), refused(21, 4, 65_536));
+    assert_eq!(answer_of(4, &clipped), refused(11, 4, 65_537));
+    assert_eq!(answer_of(5, &longest(5, &[])), refused(21, 5, 22));
+    let mut values = [STAYS; VALUES];
+    // SAFETY: each pointer comes with the length of the slice that it is of.
+    let code =
+        unsafe { raw::skogmund_read(4, clipped.as_ptr(), 65_536, values.as_mut_ptr(), VALUES) };
+    assert_eq!(code, 11 << 40 | 4 << 32 | 65_537);
+}
+
 #[test]
 fn missing_values_of_section_4() {
     let mut section = section4(0, 34, 0, 0, 0);

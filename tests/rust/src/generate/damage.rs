@@ -144,29 +144,31 @@ pub fn swell_section(rng: &mut Rng, s: &mut Vec<u8>) {
     close_if_any(s);
 }
 
-/// As long as a section may be, where a list of as many numbers as fit, or of one more, follows: so it is whole, short or long by a few octets.
-fn fill_to_the_limit(rng: &mut Rng, s: &mut Vec<u8>) {
+/// The list that ends a section: how many octets each of its numbers has, and the field that counts them.
+fn last_list(s: &[u8]) -> Option<(u64, Field)> {
     let fields = fields_of(s);
     let value = |field: &Field| number(s, field.first, field.last);
-    let named = |name| fields.iter().find(|field| field.name == name);
-    let (width, count) = match (named("NV"), named("list width").map(value)) {
-        (Some(coordinates), _) => (4, coordinates),
-        (_, Some(width @ 1..=4)) => {
-            let counts = [named("Ni"), named("Nj")].into_iter().flatten();
-            let Some(count) = counts.filter(|&count| value(count) != MISSING).last() else {
-                return;
-            };
-            (width, count)
-        }
-        _ => return,
-    };
-    let listed = value(count).saturating_mul(width);
-    let Some(before) = (s.len() as u64).checked_sub(listed) else {
-        return;
-    };
-    let numbers = (MOST_OCTETS as u64 - before) / width + rng.below(2) as u64;
-    put(s, count.first, count.last, numbers);
-    s.resize(MOST_OCTETS, rng.octet());
+    let named = |name| fields.iter().find(|field| field.name == name).copied();
+    if let Some(coordinates) = named("NV") {
+        return Some((4, coordinates));
+    }
+    let width = named("list width").map(|field| value(&field))?;
+    let mut counts = ["Ni", "Nj"].into_iter().filter_map(named);
+    let count = counts.find(|count| value(count) != MISSING)?;
+    (width > 0).then_some((width, count))
+}
+
+/// As long as a section may be. Its list has as many numbers as fit, or one more, so that it is whole, short or long by a few octets; where
+/// there is none it has a long tail.
+fn fill_to_the_limit(rng: &mut Rng, s: &mut Vec<u8>) {
+    if let Some((width, count)) = last_list(s) {
+        let listed = number(s, count.first, count.last).saturating_mul(width);
+        let before = (s.len() as u64).saturating_sub(listed);
+        let fit = (MOST_OCTETS as u64).saturating_sub(before) / width;
+        put(s, count.first, count.last, fit + rng.below(2) as u64);
+    }
+    let filler = rng.octet();
+    s.resize(MOST_OCTETS, filler);
     close(s);
 }
 
@@ -214,8 +216,8 @@ pub fn damage_inside(rng: &mut Rng, s: &mut Vec<u8>) {
 pub fn damage(rng: &mut Rng, s: &mut Vec<u8>) {
     match rng.below(200) {
         0 => swell_section(rng, s),
-        1 => fill_to_the_limit(rng, s),
-        2..=10 => change_length_octets(rng, s),
+        1..=3 => fill_to_the_limit(rng, s),
+        4..=10 => change_length_octets(rng, s),
         11..=20 => cut(rng, s),
         21..=28 => extend(rng, s),
         29..=34 => flip(rng, s),

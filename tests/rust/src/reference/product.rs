@@ -370,10 +370,10 @@ mod tests {
 
     #[test]
     fn no_ranges() {
-        assert_eq!(number(&section(8, 58, 0, 0, 0)), 9);
+        assert_eq!(refusal(&section(8, 58, 0, 0, 0)), (9, 0));
         // Of the wrong length too, but a bad field comes first.
         let mut s = section(8, 60, 0, 0, 0);
-        assert_eq!(number(&s), 9);
+        assert_eq!(refusal(&s), (9, 0));
         s[40] = 60;
         assert_eq!(
             read(&s)
