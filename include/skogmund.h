@@ -27,8 +27,9 @@
 
 /* ---- refusals
 
-   A refusal is number x 2^40 + section x 2^32 + place. The section is 0 where none is meant. The place is an octet of the section, counted from
-   1, with the three numbers that say which; with the others it is 0. Each of the three is an `unsigned`. */
+   A refusal is number x 2^40 + section x 2^32 + place. The section is 0 where none is meant. The place is counted from 1 in the
+   section: with 8 and 21 it is one of its octets, with 11 the one behind its last, at most 65,537, which is not lent; with all others it is 0.
+   Number, section and place are each an `unsigned`. */
 #define SKOGMUND_NUMBER(refusal) ((unsigned)((uint64_t)(refusal) >> 40))
 #define SKOGMUND_SECTION(refusal) ((unsigned)((uint64_t)(refusal) >> 32 & 255))
 #define SKOGMUND_PLACE(refusal) ((unsigned)((uint64_t)(refusal) & 0xffffffff))

@@ -3,15 +3,15 @@
 
 -- "Keep 11 for a section shorter than its total and give the longer one a number of its own. For 11 the place shall be the lent length plus one; for
 -- the other, the first octet beyond the total." and "21, a section longer than its total, tested where 11 is and naming its section": given that no
--- lower refusal holds (`NoLower`), 11 exactly when shorter, 21 exactly when longer, each with its place, and accepted only when equal (`ByTotal`, both
--- `layout/specs/Totals.antt`). It is one law over every section whose reasons, once its template is known, are `layout`'s with a total, and which
--- then is refused with neither:
-pub use Rattle.layout.proofs.Totals.{behind-lower, template-by-total}
+-- lower refusal is given (`NoLower`), 11 exactly when shorter, 21 exactly when longer, each with its place, and accepted only when equal (`ByTotal`, both
+-- `layout/specs/Totals.antt`). It is one law over every section whose reasons, once its template is known, are `layout`'s with a total, if what it
+-- tests behind the total is refused with neither 11 nor 21. And a lower refusal is given whatever the total is.
+pub use Rattle.layout.proofs.Totals.{behind-lower, template-by-total, lower-whatever-total}
 -- "In 01's 4.8 example 79 octets becomes 21, place 79.": `starred-cases`.
 -- The rest are the theorems of this file.
 use Prim.Native.Nat.{ℕ, _+_, _*_, _≤_}
 use native.Mathlib.Omega.{arith}
-use mathlib.Core.Path.{_≡_, refl, sym, subst}
+use mathlib.Core.Path.{_≡_, refl, sym, ap, subst, _∙_}
 use mathlib.Core.Bool.{true}
 use mathlib.Core.List.{List, _++_, List·Memᴰ}
 use lib.IntN.{ℤ}
@@ -54,10 +54,12 @@ use Rattle.packing.proofs.ShortOrLong.{short-or-long₅}
 use Rattle.packing.proofs.StarredPacking.{packing-agrees}
 use Rattle.field.specs.Field.{FieldOutcome, refusedField, onward, packedOutcome, fieldOutcome}
 use Rattle.shelf.specs.declared.Shelf.{Shelf}
-use Rattle.filing.specs.Filing.{refusedFiling, ofField, filingOf, filedBy, issueFrom, filedOf}
+use Rattle.filing.specs.Filing.{Filing, ofField, filingOf, filedBy, issueFrom, filedOf}
 use Rattle.filing.specs.declared.Issue.{Issue}
 use Rattle.filing.specs.declared.Answer.the-variants.{Refused}
 use Rattle.queue.specs.Queues.{Sent, recordFiling, recordFiled}
+use Rattle.queue.specs.Spelled.{FiveSections}
+use Rattle.queue.proofs.FiveSections.{five-filed}
 use Rattle.text.specs.Text.{ascii}
 use Rattle.report.specs.Texts.{spaced, ended, issueText, recordLine}
 use Rattle.values.specs.Records.{sectionOutcome, intoRow}
@@ -93,7 +95,7 @@ section-3-points-last template s a e names = by (three.told a) (section-3-by-tot
     by (refused number section place) law h = law (omega (arith, h)) .whole (λ x. omega (arith, h, x)) (λ x. omega (arith, h, x))
     by (read vs) law h = absurd h
 
--- sections 1 and 5 that are too short are caught by 5 or 7 and get no 11; section 7 gets neither, and keeps its 15
+-- sections 1 and 5 that are shorter than their total are caught by 7 at the latest, and get no 11; section 7 gets neither, and keeps its 15
 
 never-refused : (number : ℕ) (table : List Row) (o : Outcome) → lacks number table ≡ true → Refuses table o → RefusedWith number o → ⊥
 never-refused number table (refused n section place) l r e = never-listed number table section l (rw e at (r .listed))
@@ -111,8 +113,8 @@ section-7-neither n bits s =
 
 -- ---- both are met in every section that can have them, at the ends too
 
-pub ends-met : AllAgree shortOrLong
-ends-met = both _ _ (years-agree .1) (both _ _ (grids-agree .1) (both _ _ (products-agree .1) (packing-agrees .1)))
+pub short-or-long-cases : AllAgree shortOrLong
+short-or-long-cases = both _ _ (years-agree .1) (both _ _ (grids-agree .1) (both _ _ (products-agree .1) (packing-agrees .1)))
 
 -- ---- "Every caller that shows or passes on a refusal follows.": with whichever number, section and place a section is refused
 
@@ -134,10 +136,13 @@ module _ (number section place : ℕ) where
   unfolding filedOf filingOf ofField filedBy
   filing-hands-on shelf slot issue s1 s3 s4 s5 s7 small e = rw (le-ltb 63 slot small, e)
 
-  -- a record of a queue, whose five sections are filed so (`record-five-or-20`, demand 3)
-  pub record-hands-on : (shelf : Shelf) (r : Sent) → recordFiling r ≡ refusedFiling number section place → recordFiled shelf r .answer ≡ Refused (refusal number section place)
-  unfolding recordFiled filedBy
-  record-hands-on shelf r e = rw e
+  -- a record of a queue, whose body is five sections
+  pub record-hands-on : (shelf : Shelf) (r : Sent) (x : FiveSections (r .body)) → r .slot ≤ 63 → fieldOutcome (x .s1) (x .s3) (x .s4) (x .s5) (x .s7) ≡ refusedField number section place
+      → recordFiled shelf r .answer ≡ Refused (refusal number section place)
+  unfolding recordFiled filedOf
+  record-hands-on shelf r x small e =
+      let filed = ap (λ (b : List ℕ). recordFiling (record { slot = r .slot; issue = r .issue; body = b })) (x .strung) ∙ five-filed (x .s1) (x .s3) (x .s4) (x .s5) (x .s7) (x .sized₁) (x .sized₃) (x .sized₄) (x .sized₅) (x .sized₇) (r .slot) (r .issue) in
+      ap (λ (f : Filing). filedBy shelf (r .slot) f .answer) filed ∙ filing-hands-on shelf (r .slot) (r .issue) (x .s1) (x .s3) (x .s4) (x .s5) (x .s7) small e
 
   -- the explanation's line of it
   pub line-shows : (k slot : ℕ) (issue : Issue) → recordLine k slot issue (Refused (refusal number section place)) ≡ spaced k ++ (spaced slot ++ (issueText issue ++ (ascii " refused " ++ (spaced number ++ (spaced section ++ ended place)))))

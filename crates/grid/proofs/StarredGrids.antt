@@ -1,4 +1,4 @@
--- Document 01's starred grid holds of the definitions.
+-- Document 01's starred grid holds of the definitions, and the grids that are short or long.
 -- Assumes nothing.
 use mathlib.Core.Path.{refl}
 use Rattle.octets.specs.Octets.{part, be, beAt, digits, signOf}
@@ -11,8 +11,8 @@ use Rattle.grid.specs.Agreement.{missingWith, agreedWithoutList, agreedW
 use Rattle.grid.specs.Points.{sumOf, pointsOf}
 use Rattle.grid.specs.Section3.{asTemplate, outcome₃}
 use Rattle.grid.specs.Views.{listSpan}
-use Rattle.grid.specs.Examples.{exampleSection, starredGrids, endGrids}
+use Rattle.grid.specs.Examples.{exampleSection, starredGrids, shortOrLong₃}
 
-pub grids-agree : AllAgree starredGrids × AllAgree endGrids
+pub grids-agree : AllAgree starredGrids × AllAgree shortOrLong₃
 unfolding AllAgree exampleSection digits part be beAt signOf between placed valuesOf lowestBad firstOf ifRead openingReasons totalReasons fittingReasons templateReasons hasList gridHead earthSize earth counts corners common poles fields₃ missingWith agreedWithoutList agreedWithList agreed listCount sumOf pointsOf values₃ asTemplate templateNumbered outcome₃ listSpan
-grids-agree = ((refl, (refl, tt)), (refl, (refl, (refl, (refl, (refl, tt))))))
+grids-agree = ((refl, (refl, tt)), (refl, (refl, (refl, (refl, (refl, (refl, (refl, (refl, (refl, tt))))))))))

@@ -6,7 +6,7 @@ use lib.ListN.{length, getD, replicate}
 use lib.IntN.{ℤ, pos}
 use Rattle.octets.specs.Octets.{digits, allOnes}
 use Rattle.layout.specs.Fields.{Value, none, wholeIn}
-use Rattle.layout.specs.Examples.{Example, answered, refusedAt, filledUp}
+use Rattle.layout.specs.Examples.{Example, answered, refusedAt, filledUp, put}
 use Rattle.grid.specs.Section3.{outcome₃}
 use Rattle.grid.specs.Views.{list₃}
 
@@ -50,21 +50,28 @@ starredGrids =
 
 -- ---- short or long
 
--- so many octets of 3.0 with a list of so many numbers of one octet each, Ni missing; from octet 5 to 12: number, source, points, width, interpretation;
--- 13 to 30: template, earth; 31 to 46: Ni, Nj, basic angle, subdivisions; 47 to 63: 0; 64 to 67: Di
+-- so many octets of 3.0 with a list of so many zeros of one octet each, and so no points. Octets 5 to 12: number, source, points, list width, list
+-- interpretation; 13 to 30: template and earth; 31 to 46: Ni, missing, Nj, basic angle, subdivisions; 47 to 63: 0; 64 to 67: Di, missing
 abbrev pub withList : ℕ → ℕ → List ℕ
 withList octets listed =
-    filledUp octets (3 ∷ 0 ∷ (digits 4 0 ++ (1 ∷ 1 ∷ (replicate 18 0 ++ (digits 4 (allOnes 4) ++ (digits 4 listed ++ (digits 4 0 ++ (digits 4 1 ++ (replicate 17 0 ++ digits 4 (allOnes 4))))))))))
+    filledUp octets
+    (3 ∷ 0 ∷ (digits 4 0 ++ (1 ∷ 1 ∷ (replicate 18 0
+    ++ (digits 4 (allOnes 4) ++ (digits 4 listed ++ (digits 4 0 ++ (digits 4 1 ++ (replicate 17 0 ++ digits 4 (allOnes 4))))))))))
 
 abbrev pub isRefused : ℕ → ℕ → List ℕ → Example
 isRefused number place s = refusedAt number 3 place (outcome₃ s)
 
--- their totals are 72 and as many as are listed
-abbrev pub endGrids : List Example
-endGrids =
+-- their totals are 72 and as many as are listed; with octet 12 of 0 it is 10, also where it is too long; with points it is 13, but 11 or 21 where it
+-- is too short or too long
+abbrev pub shortOrLong₃ : List Example
+shortOrLong₃ =
     isRefused 7 0 (withList 71 3)
     ∷ isRefused 11 75 (withList 74 3)
     ∷ isRefused 21 76 (withList 76 3)
     ∷ isRefused 11 65537 (withList 65536 65465)
     ∷ isRefused 21 65536 (withList 65536 65463)
+    ∷ isRefused 10 0 (put 12 0 (withList 76 3))
+    ∷ isRefused 11 75 (put 10 1 (withList 74 3))
+    ∷ isRefused 13 0 (put 10 1 (withList 75 3))
+    ∷ isRefused 21 76 (put 10 1 (withList 76 3))
     ∷ []

@@ -7,7 +7,7 @@ use lib.ListN.{replicate}
 use lib.IntN.{ℤ, pos, negℤ}
 use Rattle.octets.specs.Octets.{digits}
 use Rattle.layout.specs.Fields.{Value}
-use Rattle.layout.specs.Examples.{Example, answered, refusedAt}
+use Rattle.layout.specs.Examples.{Example, answered, refusedAt, put}
 use Rattle.identification.specs.Section1.{outcome₁, realYearOf}
 
 -- octets 1 to 23: of so many octets, with a year, 1 January, a template number, and all else 0
@@ -47,7 +47,14 @@ starredYears =
 abbrev pub example10 : ℕ → List ℕ
 example10 octets = exampleFront octets 2024 0 ++ replicate (octets - 23) 0
 
--- its total is 24
-abbrev pub endIdentifications : List Example
-endIdentifications =
-    refusedAt 7 1 0 (outcome₁ (example10 23)) ∷ refusedAt 21 1 25 (outcome₁ (example10 25)) ∷ refusedAt 21 1 25 (outcome₁ (example10 65536)) ∷ []
+abbrev pub isRefused : ℕ → ℕ → List ℕ → Example
+isRefused number place s = refusedAt number 1 place (outcome₁ s)
+
+-- its total is 24; with month 0 it is 8, also where it is too long
+abbrev pub shortOrLong₁ : List Example
+shortOrLong₁ =
+    isRefused 7 0 (example10 23)
+    ∷ isRefused 21 25 (example10 25)
+    ∷ isRefused 21 25 (example10 65536)
+    ∷ isRefused 8 15 (put 15 0 (example10 25))
+    ∷ []

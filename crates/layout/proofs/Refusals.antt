@@ -132,7 +132,7 @@ opening-listed table section least s a =
 some : (n : ℕ) → not (eqb (n + 1) 0) ≡ true
 some n = rw (ne-eqb (n + 1) 0 (λ e. omega arith))
 
--- with 8 and 21 the place is an octet of the section, and with 11 the one behind its last; 11 is listed where the section can be too short
+-- the places of 8 and 21 are within the section, and that of 11 is one behind it; 11 has to be listed where the section can be too short
 fitting-listed : (table : List Row) (section bad own total : ℕ) (s : List ℕ) → allOf (numbersOf table section) fittingNumbers ≡ true → (length s < total → Has table section 11) → oneOf (0 ∷ numbersOf table section) own ≡ true → hasPlace own ≡ false → bad ≤ length s → length s ≤ 65536 → AllListed table section (fittingReasons bad own total s)
 unfolding fittingReasons totalReasons AllListed
 fitting-listed table section bad own total s a eleven l p b small =

@@ -1,15 +1,16 @@
 -- What its total decides of a section, once over every section with a total.
 -- Assumes nothing.
-use Prim.Native.Nat.{ℕ, _+_, _<_, _≤_}
+use Prim.Native.Nat.{ℕ, _+_, _<_}
 use native.Mathlib.Omega.{arith}
-use mathlib.Core.Path.{_≡_, refl, sym, subst}
+use mathlib.Core.Path.{_≡_, refl, subst}
 use mathlib.Core.List.{List, [], _∷_}
 use mathlib.Core.Bool.{Bool, true, false, not, cond}
 use lib.Dec.{ltb, eqb}
 use lib.ListN.{length}
 use borrow.Author.Tests.{lt-ltb, le-ltb, ltb-true, ltb-false}
-use Rattle.layout.specs.Outcomes.{Outcome, refused, read, Reason, reason, badField, firstOf, openingReasons, totalReasons, fittingReasons, templateReasons}
+use Rattle.layout.specs.Outcomes.{Outcome, refused, Reason, reason, badField, firstOf, openingReasons, totalReasons, fittingReasons, templateReasons}
 use Rattle.layout.specs.Totals.{NoLower, RefusedWith, ByTotal}
+use Rattle.layout.proofs.Outcomes.{either}
 
 -- ---- by the total's own reasons, if what follows them is refused with neither
 
@@ -73,10 +74,40 @@ pub opening-lower : (section least : ℕ) (s : List ℕ) → AllLower (openingRe
 unfolding AllLower openingReasons
 opening-lower section least s = (omega arith, (omega arith, (omega arith, (omega arith, (omega arith, tt)))))
 
--- once the template is known: 7, 8, the section's own number, the total, and what follows
+-- 7, 8 and the section's own number, which are tested before the total
+abbrev lower : ℕ → ℕ → ℕ → List ℕ → List Reason
+lower smallest bad own s = reason 7 (ltb (length s) smallest) ∷ badField bad ∷ reason own (not (eqb own 0)) ∷ []
+
+-- once the template is known: these, the total, and what follows
 pub template-by-total : (section smallest bad own total : ℕ) (s : List ℕ) (rest : Outcome) → own < 11 → (RefusedWith 11 rest → ⊥) → (RefusedWith 21 rest → ⊥)
     → NoLower (firstOf section (templateReasons smallest bad own total s) rest) → ByTotal section total s (firstOf section (templateReasons smallest bad own total s) rest)
 unfolding firstOf AllLower templateReasons fittingReasons
 template-by-total section smallest bad own total s rest small not-11 not-21 =
-    behind-lower (ByTotal section total s) section (reason 7 (ltb (length s) smallest) ∷ badField bad ∷ reason own (not (eqb own 0)) ∷ []) (firstOf section (totalReasons total s) rest)
+    behind-lower (ByTotal section total s) section (lower smallest bad own s) (firstOf section (totalReasons total s) rest)
     (omega arith, (omega arith, (small, tt))) (λ n. by-reasons section total s rest not-11 not-21)
+
+-- ---- and a lower refusal is given whatever the total is, and whatever is tested behind it
+
+-- a refusal of these reasons that is lower than what follows them is given whatever follows
+lower-kept : (section : ℕ) (rs : List Reason) (o o′ : Outcome) (number place : ℕ) → NoLower o → number < 11 → firstOf section rs o ≡ refused number section place → firstOf section rs o′ ≡ refused number section place
+unfolding firstOf
+lower-kept section [] o o′ number place n l e = absurd (omega (arith, l, subst NoLower e n))
+lower-kept section (r ∷ rs) o o′ number place n l e = by-holding (r .holds) (lower-kept section rs o o′ number place n l) e
+  where
+    by-holding : (t : Bool) → (firstOf section rs o ≡ refused number section place → firstOf section rs o′ ≡ refused number section place) → cond t (refused (r .number) section (r .place)) (firstOf section rs o) ≡ refused number section place → cond t (refused (r .number) section (r .place)) (firstOf section rs o′) ≡ refused number section place
+    by-holding true q e = e
+    by-holding false q e = q e
+
+-- the total's own reasons are not lower
+total-not-lower : (section total : ℕ) (s : List ℕ) (rest : Outcome) → NoLower rest → NoLower (firstOf section (totalReasons total s) rest)
+unfolding firstOf totalReasons
+total-not-lower section total s rest n =
+    either NoLower (ltb (length s) total) {x = refused 11 section (length s + 1)} {y = cond (ltb total (length s)) (refused 21 section (total + 1)) rest} (omega arith)
+    (either NoLower (ltb total (length s)) {x = refused 21 section (total + 1)} {y = rest} (omega arith) n)
+
+pub lower-whatever-total : (section smallest bad own total total′ : ℕ) (s : List ℕ) (rest rest′ : Outcome) (number place : ℕ) → NoLower rest → number < 11
+    → firstOf section (templateReasons smallest bad own total s) rest ≡ refused number section place
+    → firstOf section (templateReasons smallest bad own total′ s) rest′ ≡ refused number section place
+unfolding firstOf templateReasons fittingReasons
+lower-whatever-total section smallest bad own total total′ s rest rest′ number place n l =
+    lower-kept section (lower smallest bad own s) (firstOf section (totalReasons total s) rest) (firstOf section (totalReasons total′ s) rest′) number place (total-not-lower section total s rest n) l

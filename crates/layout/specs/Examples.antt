@@ -1,15 +1,15 @@
--- Worked examples of document 01, in one form for every kind, so that those which it stars can stand in one list, and others in another.
+-- Worked examples, in one form for every kind, so that those which document 01 stars can stand in one list, and others in another.
 -- Assumes nothing.
 use Prim.Native.Nat.{ℕ, _-_}
 use mathlib.Core.Path.{_≡_}
 use mathlib.Core.List.{List, [], _∷_, _++_}
 use lib.IntN.{ℤ, pos}
-use lib.ListN.{length, replicate}
+use lib.ListN.{length, set, replicate}
 use Rattle.octets.specs.Octets.{digits}
 use Rattle.layout.specs.Fields.{Value}
 use Rattle.layout.specs.Outcomes.{Outcome, refused, read}
 
--- what the definitions make of an example, and what the document says
+-- what the definitions make of an example, and what is stated of it
 pub record Example : Type 0 where
   pub made : List ℤ
   pub stated : List ℤ
@@ -26,6 +26,10 @@ refusedAt number section place o = record { made = answered (λ values. []) o; s
 -- so many octets: octets 1-4 say how many, these follow, and then zeros
 abbrev pub filledUp : ℕ → List ℕ → List ℕ
 filledUp octets some = digits 4 octets ++ (some ++ replicate (octets - 4 - length some) 0)
+
+-- another octet at this place, counted from 1
+abbrev pub put : ℕ → ℕ → List ℕ → List ℕ
+put at x s = set s (at - 1) x
 
 unfoldable pub AllAgree : List Example → Type 0
 AllAgree [] = Unit {0}

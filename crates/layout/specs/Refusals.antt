@@ -55,8 +55,7 @@ headNumbers = 1 ∷ 2 ∷ 3 ∷ 4 ∷ []
 abbrev pub openingNumbers : List ℕ
 openingNumbers = 5 ∷ headNumbers
 
--- once the template is known, beside the section's own. 11 is one of those: where the template's smallest total is its only one, 7 catches every
--- section that is too short
+-- once the template is known, beside the section's own. 11 is among the section's own, since 7 catches what is shorter than a template's only total
 abbrev pub fittingNumbers : List ℕ
 fittingNumbers = 8 ∷ 21 ∷ []
 

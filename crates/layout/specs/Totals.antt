@@ -6,7 +6,7 @@ use mathlib.Core.List.{List}
 use lib.ListN.{length}
 use Rattle.layout.specs.Outcomes.{Outcome, refused, read}
 
--- no refusal holds that is lower than the total's: the section is read, or refused with 11 or a greater number
+-- no refusal is given that is lower than the total's: the section is read, or refused with 11 or a greater number
 abbrev pub NoLower : Outcome → Type 0
 NoLower (refused number section place) = 11 ≤ number
 NoLower (read vs) = Unit {0}

@@ -1,4 +1,4 @@
--- Document 01's starred examples of sections 5 and 7: what is answered of whole sections.
+-- Document 01's starred examples of sections 5 and 7, and sections 5 that are short or long: what is answered of whole sections.
 -- Assumes nothing.
 use Prim.Native.Nat.{ℕ, _-_}
 use mathlib.Core.List.{List, [], _∷_, _++_, map}
@@ -6,7 +6,7 @@ use lib.ListN.{replicate}
 use lib.IntN.{ℤ, pos}
 use Rattle.octets.specs.Octets.{digits}
 use Rattle.layout.specs.Fields.{wholeIn}
-use Rattle.layout.specs.Examples.{Example, answered, refusedAt, filledUp}
+use Rattle.layout.specs.Examples.{Example, answered, refusedAt, filledUp, put}
 use Rattle.packing.specs.Section5.{outcome₅}
 use Rattle.packing.specs.Section7.{outcome₇}
 use Rattle.packing.specs.Unpacking.{unpackOutcome, rowAfter}
@@ -36,7 +36,18 @@ starredPacking =
 
 -- ---- short or long
 
--- so many octets of a section 5 for no values; its total is 21
-abbrev pub endPackings : List Example
-endPackings =
-    refusedAt 7 5 0 (outcome₅ (filledUp 20 (5 ∷ []))) ∷ refusedAt 21 5 22 (outcome₅ (filledUp 22 (5 ∷ []))) ∷ refusedAt 21 5 22 (outcome₅ (filledUp 65536 (5 ∷ []))) ∷ []
+-- so many octets of a section 5, all else 0
+abbrev pub section5 : ℕ → List ℕ
+section5 octets = filledUp octets (5 ∷ [])
+
+abbrev pub isRefused : ℕ → ℕ → List ℕ → Example
+isRefused number place s = refusedAt number 5 place (outcome₅ s)
+
+-- its total is 21; with 40 bits it is 8, also where it is too long
+abbrev pub shortOrLong₅ : List Example
+shortOrLong₅ =
+    isRefused 7 0 (section5 20)
+    ∷ isRefused 21 22 (section5 22)
+    ∷ isRefused 21 22 (section5 65536)
+    ∷ isRefused 8 20 (put 20 40 (section5 22))
+    ∷ []

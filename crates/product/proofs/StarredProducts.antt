@@ -9,8 +9,8 @@ use Rattle.layout.specs.Time.{time}
 use Rattle.product.specs.Blocks.{head, parameter, process, forecast, scaled, surface, common, ensemble, cluster, probability, interval}
 use Rattle.product.specs.Templates.{templateOf, ahead, behind, front, timeRanges, lists, fields₄, rangesEnd, total, rangesAt}
 use Rattle.product.specs.Section4.{asTemplate, byTemplate, outcome₄}
-use Rattle.product.specs.Examples.{starredProducts, endProducts}
+use Rattle.product.specs.Examples.{starredProducts, shortOrLong₄}
 
-pub products-agree : AllAgree starredProducts × AllAgree endProducts
+pub products-agree : AllAgree starredProducts × AllAgree shortOrLong₄
 unfolding AllAgree part be beAt digits between placed lowestBad valuesOf firstOf openingReasons totalReasons fittingReasons templateReasons time head parameter process forecast scaled surface common ensemble cluster probability interval templateOf ahead behind front timeRanges lists fields₄ rangesEnd total rangesAt asTemplate byTemplate outcome₄
-products-agree = ((refl, (refl, (refl, (refl, (refl, (refl, tt)))))), (refl, (refl, (refl, tt))))
+products-agree = ((refl, (refl, (refl, (refl, (refl, (refl, tt)))))), (refl, (refl, (refl, (refl, (refl, tt))))))

@@ -2,17 +2,14 @@
 -- Assumes nothing.
 use Prim.Native.Nat.{ℕ, _-_}
 use mathlib.Core.List.{List, [], _∷_, _++_}
-use lib.ListN.{set, replicate}
+use lib.ListN.{replicate}
 use Rattle.octets.specs.Octets.{digits}
-use Rattle.layout.specs.Examples.{Example, answered, refusedAt, filledUp}
+use Rattle.layout.specs.Examples.{Example, answered, refusedAt, filledUp, put}
 use Rattle.product.specs.Section4.{outcome₄}
 
 -- a section of so many octets, with a template and NV, all else 0 but what is put at some octets, where octets count from 1
 abbrev pub section4 : ℕ → ℕ → ℕ → List ℕ
 section4 octets template nv = 0 ∷ 0 ∷ 0 ∷ octets ∷ 4 ∷ 0 ∷ nv ∷ 0 ∷ template ∷ replicate (octets - 9) 0
-
-abbrev pub put : ℕ → ℕ → List ℕ → List ℕ
-put at x s = set s (at - 1) x
 
 -- with n at octet p, and 1 January as the end of the interval
 abbrev pub ending : ℕ → ℕ → List ℕ → List ℕ
@@ -38,6 +35,12 @@ starredProducts =
 abbrev pub longest : ℕ → ℕ → List ℕ
 longest template nv = filledUp 65536 (4 ∷ (digits 2 nv ++ digits 2 template))
 
--- 4.1 has 37 + 4 x 16,375 octets, 4.5 has 47 + 4 x 16,372, and 4.0 has 34
-abbrev pub endProducts : List Example
-endProducts = isRefused 11 65537 (longest 1 16375) ∷ isRefused 21 65536 (longest 5 16372) ∷ isRefused 21 35 (longest 0 0) ∷ []
+-- 4.1 has 37 + 4 x 16,375 octets, 4.5 has 47 + 4 x 16,372, and 4.0 has 34; with n = 0 it is 9, be it too long or too short
+abbrev pub shortOrLong₄ : List Example
+shortOrLong₄ =
+    isRefused 11 65537 (longest 1 16375)
+    ∷ isRefused 21 65536 (longest 5 16372)
+    ∷ isRefused 21 35 (longest 0 0)
+    ∷ isRefused 9 0 (ending 42 0 (section4 60 8 0))
+    ∷ isRefused 9 0 (ending 42 0 (section4 60 8 9))
+    ∷ []

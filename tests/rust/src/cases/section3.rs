@@ -213,7 +213,7 @@ fn short_or_long(cases: &mut Cases) {
         let shows = "short or long, with the place";
         cases.stated(shows, Asked::Section(3, s), stated);
     };
-    let listed = with_list(0, 2, &[4, 6, 4], Without::Ni).octets();
+    let listed = document(2).octets();
     case(sized(&listed, 72), "refused 11 3 73 ");
     case(sized(&listed, 77), "refused 11 3 78 ");
     case(sized(&listed, 79), "refused 21 3 79 ");
@@ -232,7 +232,7 @@ fn short_or_long(cases: &mut Cases) {
 
 /// 21 is above 13, and is tested where 11 is.
 fn before_the_points(cases: &mut Cases) {
-    let listed = with_list(0, 2, &[4, 6, 4], Without::Ni).points_are(12);
+    let listed = document(2).points_are(12);
     for (s, stated) in [
         (sized(&grid(1).points_are(1), 85), "refused 21 3 85 "),
         (sized(&listed, 77), "refused 11 3 78 "),

@@ -144,7 +144,8 @@ fn short_or_long(cases: &mut Cases) {
         case(sized(&whole, 65536), &longer);
     }
     // 37 + 4 x 16,375 octets, and 47 + 4 x 16,372.
-    let (of_65537, of_65535) = (section(1, 1, 0, 16375), section(5, 1, 0, 16372));
+    let of_65537 = with_numbers(1, &[(NV_AT, 16375)]);
+    let of_65535 = with_numbers(5, &[(NV_AT, 16372)]);
     case(sized(&of_65537, 65536), "refused 11 4 65537 ");
     case(sized(&of_65537, 65535), "refused 11 4 65536 ");
     case(sized(&of_65535, 65536), "refused 21 4 65536 ");

@@ -173,6 +173,8 @@ fn refusals(cases: &mut Cases) {
     let shows = "the refusals of section 5 come first";
     together(cases, shows, &five(3, 40), &sized(&packed, 6), 2);
     together(cases, shows, &sized(&of_3, 20), &packed, 3);
+    let with_a_tail = Asked::Unpacking(sized(&of_3, 22), sized(&packed, 6), 2);
+    cases.stated(shows, with_a_tail, "refused 21 5 22 ");
     let shows = "then those of section 7";
     together(cases, shows, &of_3, &with(&packed, &[(5, 5)]), 2);
     together(cases, shows, &of_3, &sized(&packed, 8), 2);

@@ -2,9 +2,10 @@
 use crate::lent::{
     damaged_by_chance, difference_of_answers, exact, hex, places_about, report, Lent,
 };
-use crate::tally::{at_the_limit, by_one_octet, template_kind, Tally, GREATEST_PRODUCT};
+use crate::tally::{
+    template_kind, total_kind, Tally, AT_THE_LIMIT, BY_ONE_OCTET, GREATEST_PRODUCT,
+};
 use skogmund_tests::entries::{self, Answer};
-use skogmund_tests::generate::damage::close_if_any;
 use skogmund_tests::generate::sections::{self, Size};
 use skogmund_tests::generate::Rng;
 use skogmund_tests::reference::entries::VALUES;
@@ -58,24 +59,26 @@ fn has_greatest_product(s: &[u8], refusal: Refusal) -> bool {
         && number(s, grid::NI_AT, 34) * number(s, grid::NJ_AT, 38) >= 1 << 63
 }
 
-/// Whether one octet more, or one less, would be the total, or a total of which another rule speaks.
+/// Whether a section that has not its total differs from it by one octet. One that is too short would not be with another octet.
 fn is_by_one(s: &[u8], refusal: Refusal) -> bool {
-    let mut other = s.to_vec();
-    match refusal.number {
-        11 => other.push(0),
-        _ => other.truncate(s.len() - 1),
+    if refusal.number == 21 {
+        return refusal.place as usize == s.len();
     }
-    close_if_any(&mut other);
-    let refused = reference::read(refusal.section, &other).err();
-    !refused.is_some_and(|refused| matches!(refused.number, 2 | 11 | 21))
+    let mut longer = [s, &[0]].concat();
+    sections::close(&mut longer);
+    let refused = reference::read(refusal.section, &longer).err();
+    !refused.is_some_and(|refused| refused.number == 11)
 }
 
-/// How far a section is from its total, and whether it is as long as one may be.
+/// Of 11 and 21.
 fn tally_total(tally: &mut Tally, s: &[u8], refusal: Refusal) {
+    let Refusal {
+        number, section, ..
+    } = refusal;
     if s.len() == MOST_OCTETS {
-        tally.kind(&at_the_limit(refusal));
+        tally.kind(&total_kind(number, section, AT_THE_LIMIT));
     } else if is_by_one(s, refusal) {
-        tally.kind(&by_one_octet(refusal));
+        tally.kind(&total_kind(number, section, BY_ONE_OCTET));
     }
 }
 

@@ -146,18 +146,12 @@ const KINDS: &[&str] = &[
 /// The total's refusals that each section can have: 7 catches sections 1 and 5 that are too short.
 const BY_TOTAL: &[(u8, u8)] = &[(11, 3), (11, 4), (21, 1), (21, 3), (21, 4), (21, 5)];
 
-pub fn by_one_octet(refusal: Refusal) -> String {
-    format!(
-        "read: {} of section {} by one octet",
-        refusal.number, refusal.section
-    )
-}
+/// How far a section is from its total, or that it is as long as one may be.
+pub const BY_ONE_OCTET: &str = "by one octet";
+pub const AT_THE_LIMIT: &str = "of 65,536 octets";
 
-pub fn at_the_limit(refusal: Refusal) -> String {
-    format!(
-        "read: {} of section {} of 65,536 octets",
-        refusal.number, refusal.section
-    )
+pub fn total_kind(number: u8, section: u8, how: &str) -> String {
+    format!("read: {number} of section {section} {how}")
 }
 
 /// 13 where Ni x Nj has all 64 bits.
@@ -175,18 +169,17 @@ pub fn template_kind(entry: &str, section: u8, template: u64) -> String {
     format!("{entry}: accepted {section}.{template}")
 }
 
-/// The kinds above, each width of a row and each template of a section.
+/// The kinds above, the total's refusals at their limits, each width of a row and each template of a section.
 fn every_kind() -> Vec<String> {
     let named = KINDS.iter().map(|kind| kind.to_string());
     let read = every_template().map(|(section, template)| template_kind("read", section, template));
     let with_parts = every_template().filter(|(section, _)| matches!(section, 3 | 4));
     let shown = with_parts.map(|(section, template)| template_kind("part", section, template));
-    let by_total = BY_TOTAL
-        .iter()
-        .map(|&(number, section)| Refusal::of_section(number, section));
-    let limits = by_total.flat_map(|refusal| [by_one_octet(refusal), at_the_limit(refusal)]);
+    let by_total = BY_TOTAL.iter().flat_map(|&(number, section)| {
+        [BY_ONE_OCTET, AT_THE_LIMIT].map(|how| total_kind(number, section, how))
+    });
     named
-        .chain(limits)
+        .chain(by_total)
         .chain((0..=32).map(width_kind))
         .chain(read)
         .chain(shown)
