@@ -20,37 +20,40 @@ use borrow.Author.Tests.{le-ltb}
 use Rattle.octets.specs.Octets.{beAt}
 use Rattle.layout.specs.Fields.{Value}
 use Rattle.layout.specs.Outcomes.{Outcome, refused, read, refusal, andThen}
-use Rattle.layout.specs.Totals.{NoLower, RefusedWith, ByTotal}
+use Rattle.layout.specs.Totals.{NoLower, RefusedWith, ByTotal, Resized}
 use Rattle.layout.specs.Refusals.{Row}
 use Rattle.layout.specs.Examples.{AllAgree}
 use Rattle.layout.proofs.Refusals.{Refuses, lacks, never-listed}
 use Rattle.identification.specs.Section1 as one
-use Rattle.identification.specs.Accepted.{ReadBy}
+use Rattle.identification.specs.Accepted.{ReadBy, Follows₁}
 use Rattle.identification.specs.Refused.{table₁}
 use Rattle.identification.specs.declared.Answer.{Answer as Answer₁}
 use Rattle.identification.specs.declared.Template.{Template as Template₁}
 use Rattle.identification.proofs.RefusalNumbers.{refuses₁}
-use Rattle.identification.proofs.ShortOrLong.{short-or-long₁}
+use Rattle.identification.proofs.ShortOrLong.{short-or-long₁, resized₁}
 use Rattle.identification.proofs.StarredYears.{years-agree}
-use Rattle.grid.specs.Templates.{total}
-use Rattle.grid.specs.Accepted.{numberOf}
+use Rattle.grid.specs.Templates.{baseEnd, total}
+use Rattle.grid.specs.Accepted.{numberOf, Follows₃}
 use Rattle.grid.specs.Section3 as three
 use Rattle.grid.specs.declared.Answer.{Answer as Answer₃}
 use Rattle.grid.specs.declared.templates.Template.{Template as Template₃}
-use Rattle.grid.proofs.ShortOrLong.{short-or-long₃}
+use Rattle.grid.proofs.ShortOrLong.{short-or-long₃, resized₃}
 use Rattle.grid.proofs.StarredGrids.{grids-agree}
 use Rattle.product.specs.Section4 as four
-use Rattle.product.specs.Table.{TemplateRow, templates₄, countIn}
+use Rattle.product.specs.Templates.{total as total₄}
+use Rattle.product.specs.Table.{TemplateRow, templates₄, countIn, isTimed}
+use Rattle.product.specs.Accepted.{Follows₄}
 use Rattle.product.specs.declared.Answer.{Answer as Answer₄}
-use Rattle.product.proofs.ShortOrLong.{short-or-long₄}
+use Rattle.product.proofs.ShortOrLong.{short-or-long₄, resized₄}
 use Rattle.product.proofs.StarredProducts.{products-agree}
 use Rattle.packing.specs.Section5 as five
 use Rattle.packing.specs.Section7.{outcome₇}
+use Rattle.packing.specs.Accepted.{Follows₅}
 use Rattle.packing.specs.Refused.{table₅, table₇}
 use Rattle.packing.specs.Unpacking.{unpackOutcome}
 use Rattle.packing.specs.declared.Answer.{Answer as Answer₅}
 use Rattle.packing.proofs.RefusalNumbers.{refuses₅, refuses₇}
-use Rattle.packing.proofs.ShortOrLong.{short-or-long₅}
+use Rattle.packing.proofs.ShortOrLong.{short-or-long₅, resized₅}
 use Rattle.packing.proofs.StarredPacking.{packing-agrees}
 use Rattle.field.specs.Field.{FieldOutcome, refusedField, onward, packedOutcome, fieldOutcome}
 use Rattle.shelf.specs.declared.Shelf.{Shelf}
@@ -86,6 +89,26 @@ section-4-by-total row s a e m names = of-answer e (short-or-long₄ row s m nam
 
 pub section-5-by-total : (s : List ℕ) (a : Answer₅) → five.told₅ a ≡ five.outcome₅ s → NoLower (five.told₅ a) → ByTotal 5 21 s (five.told₅ a)
 section-5-by-total s a e = of-answer e (short-or-long₅ s)
+
+-- What "our radio crew" sees: a section that is accepted, when it was clipped or has got a tail and says in octets 1-4 how long it is (`Resized`,
+-- `layout/specs/Totals.antt`), is refused with 11 at the first octet that is lost, or with 21 at the first octet of the tail. That is, if it keeps its
+-- template's smallest total, below which it is 7, and has no more than 65,536 octets. Of a section 1 of 21 octets, octets 22-23 of a tail are a
+-- template number.
+
+pub section-1-resized : (template : Template₁) (s t : List ℕ) (a : Answer₁) → one.told a ≡ one.outcome₁ t → Follows₁ template s → (length s ≡ 21 → ⊥) → Resized s t → one.total template ≤ length t → length t ≤ 65536
+    → ByTotal 1 (length s) t (one.told a)
+section-1-resized template s t a e f has-template r enough small = subst (ByTotal 1 (length s) t) (sym e) (resized₁ s t r has-template template f enough small)
+
+pub section-3-resized : (template : Template₃) (s t : List ℕ) (a : Answer₃) → three.told a ≡ three.outcome₃ t → Follows₃ template s → Resized s t → baseEnd template ≤ length t → length t ≤ 65536
+    → ByTotal 3 (length s) t (three.told a)
+section-3-resized template s t a e f r enough small = subst (ByTotal 3 (length s) t) (sym e) (resized₃ template s t f r enough small)
+
+pub section-4-resized : (row : TemplateRow) (s t : List ℕ) (a : Answer₄) → four.told a ≡ four.outcome₄ t → Follows₄ row s → Resized s t → total₄ (row .part) (isTimed row) 1 0 0 ≤ length t → length t ≤ 65536
+    → ByTotal 4 (length s) t (four.told a)
+section-4-resized row s t a e f r enough small = subst (ByTotal 4 (length s) t) (sym e) (resized₄ s t r row f enough small)
+
+pub section-5-resized : (s t : List ℕ) (a : Answer₅) → five.told₅ a ≡ five.outcome₅ t → Follows₅ s → Resized s t → 21 ≤ length t → length t ≤ 65536 → ByTotal 5 (length s) t (five.told₅ a)
+section-5-resized s t a e f r enough small = subst (ByTotal 5 (length s) t) (sym e) (resized₅ s t f r enough small)
 
 -- 21 is tested where 11 is: 13 is given only where the section has its total
 pub section-3-points-last : (template : Template₃) (s : List ℕ) (a : Answer₃) → three.told a ≡ three.outcome₃ s → beAt s 13 2 ≡ numberOf template → RefusedWith 13 (three.told a) → length s ≡ total template s

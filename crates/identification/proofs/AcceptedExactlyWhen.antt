@@ -101,7 +101,7 @@ read-by Calendar s h = rw (ne-eqb _ _ (h .0), h .1)
 read-by Offset s h = rw (ne-eqb _ _ (h .0), h .1)
 read-by CalendarAndOffset s h = rw (ne-eqb _ _ (h .0), h .1)
 
-template-named : (template : Template) (s : List ℕ) → length s ≡ total template → Names template s → ReadBy template s
+pub template-named : (template : Template) (s : List ℕ) → length s ≡ total template → Names template s → ReadBy template s
 template-named noTemplate s l n = l
 template-named Calendar s l n = ((λ e. eqb-false 24 21 refl (sym l ∙ e)), n)
 template-named Offset s l n = ((λ e. eqb-false 25 21 refl (sym l ∙ e)), n)

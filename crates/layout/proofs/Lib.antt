@@ -2,6 +2,7 @@ pub mod Blocks
 pub mod Outcomes
 pub mod Refusals
 pub mod Totals
+pub mod Resized
 pub mod Ranges
 pub mod Untold
 pub mod Shown

@@ -176,7 +176,7 @@ template-refuses table section smallest bad own total s o a eleven l p b small q
 -- ---- where the lowest bad field starts
 
 -- a rule can be broken only in a field of which a record holds the value
-abbrev ruled : Field → Bool
+abbrev pub ruled : Field → Bool
 ruled (held w a m) = true
 ruled (said v) = false
 ruled (shown w) = false

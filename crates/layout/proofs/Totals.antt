@@ -1,8 +1,8 @@
 -- What its total decides of a section, once over every section with a total.
 -- Assumes nothing.
-use Prim.Native.Nat.{ℕ, _+_, _<_}
+use Prim.Native.Nat.{ℕ, _+_, _<_, _≤_}
 use native.Mathlib.Omega.{arith}
-use mathlib.Core.Path.{_≡_, refl, subst}
+use mathlib.Core.Path.{_≡_, refl, sym, subst}
 use mathlib.Core.List.{List, [], _∷_}
 use mathlib.Core.Bool.{Bool, true, false, not, cond}
 use lib.Dec.{ltb, eqb}
@@ -10,7 +10,8 @@ use lib.ListN.{length}
 use borrow.Author.Tests.{lt-ltb, le-ltb, ltb-true, ltb-false}
 use Rattle.layout.specs.Outcomes.{Outcome, refused, Reason, reason, badField, firstOf, openingReasons, totalReasons, fittingReasons, templateReasons}
 use Rattle.layout.specs.Totals.{NoLower, RefusedWith, ByTotal}
-use Rattle.layout.proofs.Outcomes.{either}
+use Rattle.layout.proofs.Outcomes.{NoneHold, none-last, either}
+use Rattle.layout.proofs.Ranges.{same-test}
 
 -- ---- by the total's own reasons, if what follows them is refused with neither
 
@@ -85,6 +86,14 @@ unfolding firstOf AllLower templateReasons fittingReasons
 template-by-total section smallest bad own total s rest small not-11 not-21 =
     behind-lower (ByTotal section total s) section (lower smallest bad own s) (firstOf section (totalReasons total s) rest)
     (omega arith, (omega arith, (small, tt))) (λ n. by-reasons section total s rest not-11 not-21)
+
+-- and where none of these holds
+pub fits-by-total : (section smallest bad own total : ℕ) (s : List ℕ) (rest : Outcome) → smallest ≤ length s → bad ≡ 0 → own ≡ 0 → (RefusedWith 11 rest → ⊥) → (RefusedWith 21 rest → ⊥)
+    → ByTotal section total s (firstOf section (templateReasons smallest bad own total s) rest)
+unfolding firstOf NoneHold templateReasons fittingReasons
+fits-by-total section smallest bad own total s rest enough in-range own-kept not-11 not-21 =
+    let last = none-last section (lower smallest bad own s) (firstOf section (totalReasons total s) rest) (le-ltb _ _ enough, (same-test _ _ in-range, (same-test _ _ own-kept, tt))) in
+    subst (ByTotal section total s) (sym last) (by-reasons section total s rest not-11 not-21)
 
 -- ---- and a lower refusal is given whatever the total is, and whatever is tested behind it
 

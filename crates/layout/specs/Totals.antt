@@ -4,6 +4,7 @@ use Prim.Native.Nat.{ℕ, _+_, _<_, _≤_}
 use mathlib.Core.Path.{_≡_}
 use mathlib.Core.List.{List}
 use lib.ListN.{length}
+use Rattle.octets.specs.Octets.{octet, beAt}
 use Rattle.layout.specs.Outcomes.{Outcome, refused, read}
 
 -- no refusal is given that is lower than the total's: the section is read, or refused with 11 or a greater number
@@ -24,3 +25,9 @@ pub record ByTotal (section total : ℕ) (s : List ℕ) (o : Outcome) : Type 0 w
   pub longer : total < length s → o ≡ refused 21 section (total + 1)
   pub only-longer : RefusedWith 21 o → total < length s
   pub whole : (RefusedWith 11 o → ⊥) → (RefusedWith 21 o → ⊥) → length s ≡ total
+
+-- a section that was clipped, or has got a tail: the second has the octets of the first from octet 5 on, as far as both go, and says in octets 1-4
+-- how long it is itself
+pub record Resized (s t : List ℕ) : Type 0 where
+  pub same : (at : ℕ) → 5 ≤ at → at ≤ length s → at ≤ length t → octet t at ≡ octet s at
+  pub says-length : beAt t 1 4 ≡ length t
