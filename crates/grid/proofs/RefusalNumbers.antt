@@ -4,7 +4,7 @@ use Prim.Native.Nat.{ℕ, _≤_}
 use mathlib.Core.Path.{_≡_, refl}
 use mathlib.Core.Bool.{true, false, not}
 use mathlib.Core.List.{List, _∷_}
-use lib.ListN.{length}
+use lib.ListN.{length, drop}
 use lib.Dec.{ltb}
 use Rattle.octets.specs.Octets.{beAt}
 use Rattle.layout.specs.Fields.{placed, after, badPlace}
@@ -12,7 +12,7 @@ use Rattle.layout.specs.Outcomes.{read, firstOf}
 use Rattle.layout.specs.Refusals.{oneOf, hasPlace, Listed}
 use Rattle.layout.specs.declared.Refusal.{Refusal}
 use Rattle.layout.proofs.Outcomes.{either}
-use Rattle.layout.proofs.Refusals.{Refuses, refusal-listed, reason-refuses, opening-refuses, template-refuses, below, bad-below}
+use Rattle.layout.proofs.Refusals.{Refuses, refusal-listed, reason-refuses, opening-refuses, template-refuses, standWithin, bad-within}
 use Rattle.grid.specs.Blocks.{gridHead, earthSize, earth, counts, corners, common, pole, poles}
 use Rattle.grid.specs.Templates.{templateNamed, baseEnd, fields₃, total, values₃}
 use Rattle.grid.specs.Agreement.{agreed, disagreement}
@@ -23,13 +23,18 @@ use Rattle.grid.specs.declared.templates.Template.{Template}
 use Rattle.grid.specs.declared.templates.Template.the-variants.{LatLon, Rotated, Stretched, StretchedAndRotated}
 use Rattle.grid.specs.declared.Answer.the-variants.{Refused}
 
--- the lowest bad field starts within the base
+-- the fields with a rule stand within the base
+pub within₃ : (template : Template) (n : ℕ) → standWithin (baseEnd template) (placed 0 5 (drop 1 (fields₃ template n))) ≡ true
+unfolding standWithin placed fields₃ gridHead earthSize earth counts corners common pole poles
+within₃ LatLon n = refl
+within₃ Rotated n = refl
+within₃ Stretched n = refl
+within₃ StretchedAndRotated n = refl
+
+-- so the lowest bad field starts there
 bad₃ : (template : Template) (n : ℕ) (s : List ℕ) → badPlace (after 0 (fields₃ template n)) s ≤ baseEnd template
-unfolding below placed fields₃ gridHead earthSize earth counts corners common pole poles
-bad₃ LatLon n s = bad-below _ _ s refl
-bad₃ Rotated n s = bad-below _ _ s refl
-bad₃ Stretched n s = bad-below _ _ s refl
-bad₃ StretchedAndRotated n s = bad-below _ _ s refl
+unfolding fields₃ gridHead
+bad₃ template n s = bad-within (baseEnd template) (drop 1 (fields₃ template n)) s (within₃ template n)
 
 by-points : (template : Template) (s : List ℕ) → Refuses table₃ (firstOf 3 (pointsReasons template s) (read (values₃ template s)))
 by-points template s = reason-refuses table₃ 3 _ _ (read (values₃ template s)) refl refl tt

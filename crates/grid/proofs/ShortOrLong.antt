@@ -2,26 +2,25 @@
 -- Assumes nothing.
 use Prim.Native.Nat.{ℕ, _+_, _<_, _≤_}
 use native.Mathlib.Omega.{arith}
-use mathlib.Core.Path.{_≡_, refl, sym, ap, subst, _∙_}
+use mathlib.Core.Path.{_≡_, sym, ap, subst, _∙_}
 use mathlib.Core.List.{List, [], _∷_}
-use mathlib.Core.Bool.{true, not}
+use mathlib.Core.Bool.{not}
 use lib.Dec.{ltb}
 use lib.ListN.{length, drop}
 use Rattle.octets.specs.Octets.{beAt}
-use Rattle.layout.specs.Fields.{placed}
 use Rattle.layout.specs.Outcomes.{read, reason, firstOf, openingReasons}
 use Rattle.layout.specs.Totals.{NoLower, ByTotal, Resized}
 use Rattle.layout.proofs.Outcomes.{NoneHold, either, read-none, none-last, opening-read, opening-last, template-read}
-use Rattle.layout.proofs.Resized.{standWithin, number-same, resized-by-total, resized-headed}
+use Rattle.layout.proofs.Resized.{number-same, resized-by-total, resized-headed}
 use Rattle.layout.proofs.Totals.{AllLower, other-number, behind-lower, opening-lower, template-by-total}
-use Rattle.grid.specs.Blocks.{gridHead, earthSize, earth, counts, corners, common, pole, poles}
+use Rattle.grid.specs.Blocks.{gridHead}
 use Rattle.grid.specs.Templates.{templateNumbered, templateNamed, baseEnd, fields₃, listCount, listOctets, total, values₃}
 use Rattle.grid.specs.Agreement.{missingWith, agreedWithoutList, agreedWithList, agreed, disagreement}
 use Rattle.grid.specs.Points.{pointsReasons}
 use Rattle.grid.specs.Section3.{asTemplate, outcome₃}
 use Rattle.grid.specs.Accepted.{numberOf, Follows₃}
 use Rattle.grid.specs.declared.templates.Template.{Template}
-use Rattle.grid.specs.declared.templates.Template.the-variants.{LatLon, Rotated, Stretched, StretchedAndRotated}
+use Rattle.grid.proofs.RefusalNumbers.{within₃}
 use Rattle.grid.proofs.AcceptedExactlyWhen.{named, names-it, follows-accepted}
 use Rattle.grid.proofs.Widths.{base-between}
 
@@ -42,14 +41,6 @@ short-or-long₃ template s names =
     (rw by (as-template template s)))
 
 -- ---- an accepted one that was clipped, but not below its base, or has got a tail
-
--- the fields with a rule stand within the base
-within₃ : (template : Template) (n : ℕ) → standWithin (baseEnd template) (placed 0 5 (drop 1 (fields₃ template n))) ≡ true
-unfolding standWithin placed fields₃ gridHead earthSize earth counts corners common pole poles
-within₃ LatLon n = refl
-within₃ Rotated n = refl
-within₃ Stretched n = refl
-within₃ StretchedAndRotated n = refl
 
 module _ (s t : List ℕ) (r : Resized s t) (in-s : 72 ≤ length s) (in-t : 72 ≤ length t) where
   same : (at width : ℕ) → 5 ≤ at → at + width ≤ 73 → beAt t at width ≡ beAt s at width

@@ -4,7 +4,8 @@ use Prim.Native.Nat.{ℕ, zero, suc, _≤_}
 use native.Mathlib.Omega.{arith}
 use mathlib.Core.Path.{_≡_, refl}
 use mathlib.Core.List.{List}
-use lib.ListN.{length}
+use mathlib.Core.Bool.{true}
+use lib.ListN.{length, drop}
 use lib.Dec.{eqb}
 use Rattle.octets.specs.Octets.{beAt}
 use Rattle.layout.specs.Fields.{placed, after, badPlace}
@@ -13,20 +14,25 @@ use Rattle.layout.specs.Refusals.{Listed}
 use Rattle.layout.specs.Time.{time}
 use Rattle.layout.specs.declared.Refusal.{Refusal}
 use Rattle.layout.proofs.Outcomes.{either}
-use Rattle.layout.proofs.Refusals.{Refuses, refusal-listed, placeless, reason-refuses, opening-refuses, template-refuses, below, bad-below}
+use Rattle.layout.proofs.Refusals.{Refuses, refusal-listed, placeless, reason-refuses, opening-refuses, template-refuses, standWithin, bad-within}
 use Rattle.identification.specs.Section1.{fields₁, origin, statusAndType, total, values₁, asTemplate, byNumber, byTemplate, outcome₁, told}
 use Rattle.identification.specs.Refused.{table₁}
 use Rattle.identification.specs.declared.Template.{Template}
 use Rattle.identification.specs.declared.Template.the-variants.{None as noTemplate, Calendar, Offset, CalendarAndOffset}
 use Rattle.identification.specs.declared.Answer.the-variants.{Refused}
 
--- the lowest bad field starts within the total
+-- the fields with a rule stand within the total
+pub within₁ : (template : Template) → standWithin (total template) (placed 0 5 (drop 1 (fields₁ template))) ≡ true
+unfolding standWithin placed fields₁ origin statusAndType time
+within₁ noTemplate = refl
+within₁ Calendar = refl
+within₁ Offset = refl
+within₁ CalendarAndOffset = refl
+
+-- so the lowest bad field starts there
 bad₁ : (template : Template) (s : List ℕ) → badPlace (after 0 (fields₁ template)) s ≤ total template
-unfolding below placed fields₁ origin statusAndType time
-bad₁ noTemplate s = bad-below _ _ s refl
-bad₁ Calendar s = bad-below _ _ s refl
-bad₁ Offset s = bad-below _ _ s refl
-bad₁ CalendarAndOffset s = bad-below _ _ s refl
+unfolding fields₁ origin
+bad₁ template s = bad-within (total template) (drop 1 (fields₁ template)) s (within₁ template)
 
 module _ (s : List ℕ) (small : length s ≤ 65536) where
   as-template : (template : Template) → Refuses table₁ (asTemplate template s)

@@ -2,23 +2,21 @@
 -- Assumes nothing.
 use Prim.Native.Nat.{ℕ, _≤_}
 use native.Mathlib.Omega.{arith}
-use mathlib.Core.Path.{_≡_, refl, sym, subst, _∙_}
-use mathlib.Core.Bool.{true}
+use mathlib.Core.Path.{_≡_, sym, subst, _∙_}
 use mathlib.Core.List.{List, [], _∷_}
 use lib.Dec.{eqb}
 use lib.ListN.{length, drop}
 use borrow.Author.Tests.{ne-eqb}
-use Rattle.layout.specs.Fields.{placed}
 use Rattle.layout.specs.Outcomes.{read, reason, openingReasons}
-use Rattle.layout.specs.Time.{time}
 use Rattle.layout.specs.Totals.{NoLower, ByTotal, Resized}
 use Rattle.layout.proofs.Outcomes.{NoneHold, read-none, none-last, opening-read, opening-last, template-read}
-use Rattle.layout.proofs.Resized.{standWithin, number-same, resized-by-total, resized-headed}
+use Rattle.layout.proofs.Resized.{number-same, resized-by-total, resized-headed}
 use Rattle.layout.proofs.Totals.{AllLower, behind-lower, opening-lower, template-by-total}
-use Rattle.identification.specs.Section1.{fields₁, origin, statusAndType, total, values₁, asTemplate, byTemplate, outcome₁}
+use Rattle.identification.specs.Section1.{fields₁, origin, total, values₁, asTemplate, byTemplate, outcome₁}
 use Rattle.identification.specs.Accepted.{ReadBy, Follows₁}
 use Rattle.identification.specs.declared.Template.{Template}
 use Rattle.identification.specs.declared.Template.the-variants.{None as noTemplate, Calendar, Offset, CalendarAndOffset}
+use Rattle.identification.proofs.RefusalNumbers.{within₁}
 use Rattle.identification.proofs.AcceptedExactlyWhen.{read-by, template-named, follows-accepted}
 
 as-template : (template : Template) (s : List ℕ) → NoLower (asTemplate template s) → ByTotal 1 (total template) s (asTemplate template s)
@@ -34,13 +32,6 @@ short-or-long₁ template s by =
     (rw (read-by template s by) (as-template template s)))
 
 -- ---- an accepted one that was clipped, but not below its smallest total, or has got a tail
-
-within₁ : (template : Template) → standWithin (total template) (placed 0 5 (drop 1 (fields₁ template))) ≡ true
-unfolding standWithin placed fields₁ origin time statusAndType
-within₁ noTemplate = refl
-within₁ Calendar = refl
-within₁ Offset = refl
-within₁ CalendarAndOffset = refl
 
 -- octets 22-23 still name its template, if it has one
 module _ (s t : List ℕ) (r : Resized s t) (has-template : length s ≡ 21 → ⊥) where

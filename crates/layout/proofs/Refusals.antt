@@ -9,7 +9,7 @@ use mathlib.Core.Bool.{Bool, true, false, not, cond, true≢false, _&&_}
 use lib.Dec.{leb, ltb, eqb}
 use lib.ListN.{length}
 use borrow.Author.Tests.{eqb-true, eq-eqb, ne-eqb, leb-true, ltb-true, ltb-false}
-use Rattle.layout.specs.Fields.{Field, held, said, shown, allowed, FieldAt, badPlace, lowestBad, rawAt}
+use Rattle.layout.specs.Fields.{Field, held, said, shown, width, allowed, raw, FieldAt, placed, after, badPlace, lowestBad, rawAt}
 use Rattle.layout.specs.Outcomes.{Outcome, refused, read, refusal, refusedBy, Reason, reason, firstOf, firstRefusal, noRefusal, andThen, headReasons, openingReasons, totalReasons, fittingReasons, templateReasons}
 use Rattle.layout.specs.Refusals.{Row, row, oneOf, numbersOf, hasPlace, lastPlace, Listed, headNumbers, openingNumbers, fittingNumbers, templateNumbers}
 use Rattle.layout.specs.declared.Refusal.{Refusal}
@@ -181,26 +181,40 @@ ruled (held w a m) = true
 ruled (said v) = false
 ruled (shown w) = false
 
--- each such field starts at one of the first `last` octets
-unfoldable pub below : ℕ → List FieldAt → Bool
-below last [] = true
-below last (p ∷ ps) = cond (ruled (p .field)) (leb (p .at) last) true && below last ps
+-- each such field stands behind the length, within the first `last` octets
+abbrev pub stands : ℕ → ℕ → Field → Bool
+stands last at f = leb 5 at && (leb at last && leb (at + width f) (last + 1))
 
-pub bad-below : (last : ℕ) (ps : List FieldAt) (s : List ℕ) → below last ps ≡ true → badPlace ps s ≤ last
-unfolding lowestBad below
-bad-below last [] s b = omega arith
-bad-below last (p ∷ ps) s b =
+pub stood : (last at : ℕ) (f : Field) → stands last at f ≡ true → (5 ≤ at) × (at ≤ last) × (at + width f ≤ last + 1)
+stood last at f e =
+    let p = both-hold (leb 5 at) (leb at last && leb (at + width f) (last + 1)) e in
+    let q = both-hold (leb at last) (leb (at + width f) (last + 1)) (p .1) in
+    (leb-true _ _ (p .0), leb-true _ _ (q .0), leb-true _ _ (q .1))
+
+unfoldable pub standWithin : ℕ → List FieldAt → Bool
+standWithin last [] = true
+standWithin last (p ∷ ps) = cond (ruled (p .field)) (stands last (p .at) (p .field)) true && standWithin last ps
+
+bad-at : (last : ℕ) (ps : List FieldAt) (s : List ℕ) → standWithin last ps ≡ true → badPlace ps s ≤ last
+unfolding lowestBad standWithin
+bad-at last [] s b = omega arith
+bad-at last (p ∷ ps) s b =
     let parts = both-hold _ _ b in
-    by (p .field) (rawAt p s) (parts .0) (bad-below last ps s (parts .1))
+    by (p .field) (rawAt p s) (parts .0) (bad-at last ps s (parts .1))
   where
-    stands : (t : Bool) → leb (p .at) last ≡ true → badPlace ps s ≤ last → cond t (badPlace ps s) (p .at) ≤ last
-    stands true e rest = rest
-    stands false e rest = leb-true _ _ e
+    starts : (t : Bool) → p .at ≤ last → badPlace ps s ≤ last → cond t (badPlace ps s) (p .at) ≤ last
+    starts true e rest = rest
+    starts false e rest = e
 
-    by : (f : Field) (x : ℕ) → cond (ruled f) (leb (p .at) last) true ≡ true → badPlace ps s ≤ last → cond (allowed f x) (badPlace ps s) (p .at) ≤ last
-    by (held w a m) x e rest = stands (a x) e rest
+    by : (f : Field) (x : ℕ) → cond (ruled f) (stands last (p .at) f) true ≡ true → badPlace ps s ≤ last → cond (allowed f x) (badPlace ps s) (p .at) ≤ last
+    by (held w a m) x e rest = starts (a x) (stood last (p .at) (held w a m) e .1) rest
     by (said v) x e rest = rest
     by (shown w) x e rest = rest
+
+-- of a section's fields, which begin with its length
+pub bad-within : (last : ℕ) (fs : List Field) (s : List ℕ) → standWithin last (placed 0 5 fs) ≡ true → badPlace (after 0 (raw 4 ∷ fs)) s ≤ last
+unfolding lowestBad placed
+bad-within last fs s b = bad-at last (placed 0 5 fs) s b
 
 -- ---- the refusal that a reader is told: none, or one of the numbers
 

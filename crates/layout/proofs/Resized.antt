@@ -4,10 +4,8 @@ use Prim.Native.Nat.{ℕ, zero, suc, _+_, _≤_}
 use native.Mathlib.Omega.{arith}
 use mathlib.Core.Path.{_≡_, refl, ap, ap₂, _∙_}
 use mathlib.Core.List.{List, [], _∷_}
-use mathlib.Core.Bool.{Bool, true, cond, _&&_}
-use lib.Dec.{leb}
+use mathlib.Core.Bool.{true, cond}
 use lib.ListN.{length}
-use borrow.Author.Tests.{leb-true}
 use Rattle.octets.specs.Octets.{part, be, beAt}
 use Rattle.layout.specs.Fields.{Field, held, said, shown, width, allowed, raw, FieldAt, placed, after, badPlace, AllAllowed}
 use Rattle.layout.specs.Outcomes.{Outcome, firstOf, templateReasons}
@@ -15,13 +13,8 @@ use Rattle.layout.specs.Totals.{RefusedWith, ByTotal, Resized}
 use Rattle.layout.proofs.Blocks.{bad-none, none-bad}
 use Rattle.layout.proofs.Outcomes.{Headed, Fits}
 use Rattle.layout.proofs.Ranges.{both-hold}
-use Rattle.layout.proofs.Refusals.{ruled}
+use Rattle.layout.proofs.Refusals.{ruled, stands, stood, standWithin}
 use Rattle.layout.proofs.Totals.{fits-by-total}
-
--- each field that a rule can be broken in stands between octet 5 and octet `last`
-unfoldable pub standWithin : ℕ → List FieldAt → Bool
-standWithin last [] = true
-standWithin last (p ∷ ps) = cond (ruled (p .field)) (leb 5 (p .at) && leb (p .at + width (p .field)) (last + 1)) true && standWithin last ps
 
 module _ (s t : List ℕ) (r : Resized s t) (last : ℕ) (in-s : last ≤ length s) (in-t : last ≤ length t) where
   part-same : (at width : ℕ) → 5 ≤ at → at + width ≤ last + 1 → part t at width ≡ part s at width
@@ -34,8 +27,8 @@ module _ (s t : List ℕ) (r : Resized s t) (last : ℕ) (in-s : last ≤ length
   unfolding beAt
   number-same at width h e = ap be (part-same at width h e)
 
-  one-allowed : (f : Field) (at : ℕ) → cond (ruled f) (leb 5 at && leb (at + width f) (last + 1)) true ≡ true → allowed f (beAt s at (width f)) ≡ true → allowed f (beAt t at (width f)) ≡ true
-  one-allowed (held w a m) at e h = let parts = both-hold _ _ e in rw (number-same at w (leb-true _ _ (parts .0)) (leb-true _ _ (parts .1))) h
+  one-allowed : (f : Field) (at : ℕ) → cond (ruled f) (stands last at f) true ≡ true → allowed f (beAt s at (width f)) ≡ true → allowed f (beAt t at (width f)) ≡ true
+  one-allowed (held w a m) at e h = let there = stood last at (held w a m) e in rw (number-same at w (there .0) (there .2)) h
   one-allowed (said v) at e h = refl
   one-allowed (shown w) at e h = refl
 

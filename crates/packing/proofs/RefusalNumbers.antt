@@ -4,14 +4,14 @@ use Prim.Native.Nat.{ℕ, _≤_}
 use native.Mathlib.Omega.{arith}
 use mathlib.Core.Path.{_≡_, refl}
 use mathlib.Core.List.{List}
-use mathlib.Core.Bool.{not}
-use lib.ListN.{length}
+use mathlib.Core.Bool.{true, not}
+use lib.ListN.{length, drop}
 use lib.Dec.{eqb}
 use Rattle.octets.specs.Octets.{beAt}
 use Rattle.layout.specs.Fields.{placed, after, badPlace}
 use Rattle.layout.specs.Refusals.{Listed}
 use Rattle.layout.specs.declared.Refusal.{Refusal}
-use Rattle.layout.proofs.Refusals.{Refuses, refusal-listed, refuses-wider, then-refuses, reason-refuses, head-refuses, opening-refuses, template-refuses, below, bad-below}
+use Rattle.layout.proofs.Refusals.{Refuses, refusal-listed, refuses-wider, then-refuses, reason-refuses, head-refuses, opening-refuses, template-refuses, standWithin, bad-within}
 use Rattle.packing.specs.Section5.{fields₅, told₅, outcome₅, asSimple, valuesAt, bitsAt}
 use Rattle.packing.specs.Section7.{told₇, outcome₇}
 use Rattle.packing.specs.Unpacking.{toldUnpacked, unpackOutcome}
@@ -20,10 +20,15 @@ use Rattle.packing.specs.declared.Answer.the-variants.{Refused as Refuse
 use Rattle.packing.specs.declared.DataAnswer.the-variants.{Refused as Refused₇}
 use Rattle.packing.specs.declared.Unpacked.the-variants.{Refused as refusedUnpacking}
 
--- the lowest bad field starts within the total
+-- the fields with a rule stand within the total
+pub within₅ : standWithin 21 (placed 0 5 (drop 1 fields₅)) ≡ true
+unfolding standWithin placed fields₅
+within₅ = refl
+
+-- so the lowest bad field starts there
 bad₅ : (s : List ℕ) → badPlace (after 0 fields₅) s ≤ 21
-unfolding below placed fields₅
-bad₅ s = bad-below _ _ s refl
+unfolding fields₅
+bad₅ s = bad-within 21 (drop 1 fields₅) s within₅
 
 pub refuses₅ : (s : List ℕ) → Refuses table₅ (outcome₅ s)
 unfolding outcome₅ asSimple

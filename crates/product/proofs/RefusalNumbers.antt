@@ -4,7 +4,7 @@ use Prim.Native.Nat.{ℕ, _≤_}
 use mathlib.Core.Path.{_≡_, refl}
 use mathlib.Core.Bool.{Bool, true, false, _&&_}
 use mathlib.Core.List.{List, _∷_}
-use lib.ListN.{length}
+use lib.ListN.{length, drop}
 use lib.Dec.{eqb}
 use Rattle.octets.specs.Octets.{beAt}
 use Rattle.layout.specs.Fields.{placed, after, badPlace}
@@ -13,7 +13,7 @@ use Rattle.layout.specs.Refusals.{oneOf, hasPlace, Listed}
 use Rattle.layout.specs.Time.{time}
 use Rattle.layout.specs.declared.Refusal.{Refusal}
 use Rattle.layout.proofs.Outcomes.{either}
-use Rattle.layout.proofs.Refusals.{Refuses, refusal-listed, placeless, opening-refuses, template-refuses, below, bad-below}
+use Rattle.layout.proofs.Refusals.{Refuses, refusal-listed, placeless, opening-refuses, template-refuses, standWithin, bad-within}
 use Rattle.product.specs.Blocks.{head, parameter, process, forecast, scaled, surface, common, ensemble, cluster, probability, aerosol, interval}
 use Rattle.product.specs.Templates.{templateOf, ahead, behind, front, timeRanges, lists, fields₄, rangesEnd, total, rangesAt, lackOfRanges, totalIn, values₄}
 use Rattle.product.specs.Section4.{asTemplate, byTemplate, outcome₄, told}
@@ -24,19 +24,24 @@ use Rattle.product.specs.declared.templates.Template.{Template}
 use Rattle.product.specs.declared.templates.Template.the-variants.{NotListed, Listed as isListed}
 use Rattle.product.specs.declared.Answer.the-variants.{Refused}
 
--- the lowest bad field starts within the smallest total
+-- the fields with a rule stand within the smallest total
+pub within₄ : (kind : PartKind) (timed : Bool) (n nc nv : ℕ) → standWithin (total kind timed 1 0 0) (placed 0 5 (drop 1 (fields₄ kind timed n nc nv))) ≡ true
+unfolding standWithin placed fields₄ front ahead behind timeRanges lists head parameter process forecast scaled surface common ensemble cluster probability aerosol interval time total rangesEnd
+within₄ noPart true n nc nv = refl
+within₄ noPart false n nc nv = refl
+within₄ Ensemble true n nc nv = refl
+within₄ Ensemble false n nc nv = refl
+within₄ Cluster true n nc nv = refl
+within₄ Cluster false n nc nv = refl
+within₄ Probability true n nc nv = refl
+within₄ Probability false n nc nv = refl
+within₄ Aerosol true n nc nv = refl
+within₄ Aerosol false n nc nv = refl
+
+-- so the lowest bad field starts there
 bad₄ : (kind : PartKind) (timed : Bool) (n nc nv : ℕ) (s : List ℕ) → badPlace (after 0 (fields₄ kind timed n nc nv)) s ≤ total kind timed 1 0 0
-unfolding below placed fields₄ front ahead behind timeRanges lists head parameter process forecast scaled surface common ensemble cluster probability aerosol interval time total rangesEnd
-bad₄ noPart true n nc nv s = bad-below _ _ s refl
-bad₄ noPart false n nc nv s = bad-below _ _ s refl
-bad₄ Ensemble true n nc nv s = bad-below _ _ s refl
-bad₄ Ensemble false n nc nv s = bad-below _ _ s refl
-bad₄ Cluster true n nc nv s = bad-below _ _ s refl
-bad₄ Cluster false n nc nv s = bad-below _ _ s refl
-bad₄ Probability true n nc nv s = bad-below _ _ s refl
-bad₄ Probability false n nc nv s = bad-below _ _ s refl
-bad₄ Aerosol true n nc nv s = bad-below _ _ s refl
-bad₄ Aerosol false n nc nv s = bad-below _ _ s refl
+unfolding fields₄ front head
+bad₄ kind timed n nc nv s = bad-within (total kind timed 1 0 0) (drop 1 (fields₄ kind timed n nc nv)) s (within₄ kind timed n nc nv)
 
 by-template : (template : Template) (s : List ℕ) → length s ≤ 65536 → Refuses table₄ (byTemplate template s)
 unfolding byTemplate asTemplate

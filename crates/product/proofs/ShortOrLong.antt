@@ -8,15 +8,13 @@ use mathlib.Core.Bool.{Bool, true, false, _&&_}
 use lib.Dec.{eqb}
 use lib.ListN.{length, drop}
 use Rattle.octets.specs.Octets.{beAt}
-use Rattle.layout.specs.Fields.{placed}
 use Rattle.layout.specs.Outcomes.{read, openingReasons}
-use Rattle.layout.specs.Time.{time}
 use Rattle.layout.specs.Totals.{NoLower, ByTotal, Resized}
 use Rattle.layout.proofs.Outcomes.{either, opening-read, opening-last, template-read}
-use Rattle.layout.proofs.Resized.{standWithin, number-same, resized-by-total, resized-headed}
+use Rattle.layout.proofs.Resized.{number-same, resized-by-total, resized-headed}
 use Rattle.layout.proofs.Totals.{behind-lower, opening-lower, template-by-total}
-use Rattle.product.specs.Blocks.{head, parameter, process, forecast, scaled, surface, common, ensemble, cluster, probability, aerosol, interval}
-use Rattle.product.specs.Templates.{templateOf, ahead, behind, front, timeRanges, lists, fields₄, partEnd, rangesEnd, total, rangesAt, membersAt, lackOfRanges, fieldsIn, totalIn, values₄}
+use Rattle.product.specs.Blocks.{head}
+use Rattle.product.specs.Templates.{templateOf, front, fields₄, partEnd, rangesEnd, total, rangesAt, membersAt, lackOfRanges, fieldsIn, totalIn, values₄}
 use Rattle.product.specs.Section4.{asTemplate, byTemplate, outcome₄}
 use Rattle.product.specs.Table.{TemplateRow, templates₄, countIn, isTimed}
 use Rattle.product.specs.Accepted.{Follows₄}
@@ -25,6 +23,7 @@ use Rattle.product.specs.declared.templates.PartKind.the-variants.{None 
 use Rattle.product.specs.declared.templates.Template.{Template}
 use Rattle.product.proofs.TableAgrees.{table-listed, table-total}
 use Rattle.product.proofs.FieldsByBlock.{part-enough}
+use Rattle.product.proofs.RefusalNumbers.{within₄}
 use Rattle.product.proofs.AcceptedExactlyWhen.{follows-listed, follows-accepted}
 
 as-template : (kind : PartKind) (timed : Bool) (s : List ℕ) → NoLower (asTemplate kind timed s) → ByTotal 4 (totalIn kind timed s) s (asTemplate kind timed s)
@@ -43,20 +42,6 @@ short-or-long₄ row s m names =
     (rw (by, ← table-total row m s) (as-template (row .part) (isTimed row) s))
 
 -- ---- an accepted one that was clipped, but not below its smallest total, or has got a tail
-
--- the fields with a rule, and the counts, stand within the smallest total
-within₄ : (kind : PartKind) (timed : Bool) (n nc nv : ℕ) → standWithin (total kind timed 1 0 0) (placed 0 5 (drop 1 (fields₄ kind timed n nc nv))) ≡ true
-unfolding standWithin placed fields₄ front ahead behind timeRanges lists head parameter process forecast scaled surface common ensemble cluster probability aerosol interval time total rangesEnd
-within₄ noPart true n nc nv = refl
-within₄ noPart false n nc nv = refl
-within₄ Ensemble true n nc nv = refl
-within₄ Ensemble false n nc nv = refl
-within₄ Cluster true n nc nv = refl
-within₄ Cluster false n nc nv = refl
-within₄ Probability true n nc nv = refl
-within₄ Probability false n nc nv = refl
-within₄ Aerosol true n nc nv = refl
-within₄ Aerosol false n nc nv = refl
 
 smallest₄ : (kind : PartKind) (timed : Bool) → 9 ≤ total kind timed 1 0 0
 unfolding total rangesEnd
