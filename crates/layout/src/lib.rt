@@ -95,10 +95,14 @@ pub fn fitting_refusal(s: &[u8], section: u8, bad: usize, own: u8, total: usize)
 }
 
 // 11: the section is shorter than its total, and the place is the first octet that is not there. 21: it is longer, and the place is the
-// first octet beyond. Neither sum can pass a usize, since the other side is greater.
+// first octet beyond. Neither sum can pass a usize, since the other side is greater. That it has its total is tested first, as for nearly every
+// section that comes this far it has.
 fn total_refusal(s: &[u8], section: u8, total: usize) -> Refusal
     ensures { λ r. ⌜ r ≡ firstRefusal section (totalReasons total (now (s .entry))) ⌝ }
 {
+    if s.len() == total {
+        return Refusal::none();
+    }
     if s.len() < total {
         return Refusal {
             number: 11,
@@ -106,14 +110,11 @@ fn total_refusal(s: &[u8], section: u8, total: usize) -> Refusal
             place: s.len() + 1,
         };
     }
-    if total < s.len() {
-        return Refusal {
-            number: 21,
-            section,
-            place: total + 1,
-        };
+    Refusal {
+        number: 21,
+        section,
+        place: total + 1,
     }
-    Refusal::none()
 }
 
 // ---- the lowest field out of its range: each answers `at` if its field is, and else `later`, the place that the fields
