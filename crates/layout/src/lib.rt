@@ -95,8 +95,8 @@ pub fn fitting_refusal(s: &[u8], section: u8, bad: usize, own: u8, total: usize)
 }
 
 // 11: the section is shorter than its total, and the place is the first octet that is not there. 21: it is longer, and the place is the
-// first octet beyond. Neither sum can pass a usize, since the other side is greater. That it has its total is tested first, as for nearly every
-// section that comes this far it has.
+// first octet beyond. Neither sum can pass a usize, since the other side is greater. Whether it has its total is tested first: nearly
+// every section that comes this far has it.
 fn total_refusal(s: &[u8], section: u8, total: usize) -> Refusal
     ensures { λ r. ⌜ r ≡ firstRefusal section (totalReasons total (now (s .entry))) ⌝ }
 {
