@@ -1,0 +1,14 @@
+pub mod Clear
+pub mod Walks
+pub mod Reading
+pub mod Steps
+pub mod Sizes
+pub mod Parsing
+pub mod Grouped
+pub mod Frames
+pub mod Shown
+pub mod AcceptedExactlyWhen
+pub mod CoveredOnce
+pub mod Unambiguous
+pub mod Marks
+pub mod Views

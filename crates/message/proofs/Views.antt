@@ -1,0 +1,78 @@
+-- What a caller is shown: of an accepted message the k-th field's sections, and of anything else no octets.
+-- Assumes nothing.
+use Prim.Native.Nat.{ℕ, _-_, _≤_}
+use mathlib.Core.Path.{_≡_, refl, ap, sym, _∙_}
+use mathlib.Core.Bool.{Bool, true, false, cond}
+use mathlib.Core.List.{List, [], _++_}
+use lib.Dec.{ltb, eqb}
+use lib.ListN.{length, getD, replicate, List·getD-map, List·getD-append, List·getD-eq-default}
+use borrow.Author.Tests.{ltb-true, ltb-false, le-ltb}
+use Rattle.layout.specs.Spans.{nowhere, octetsIn}
+use Rattle.message.specs.declared.Sections.{Sections}
+use Rattle.message.specs.declared.Cut.{Cut}
+use Rattle.message.specs.Walk.{noSections}
+use Rattle.message.specs.Grammar.{Five, fieldsIn, FollowsMessage}
+use Rattle.message.specs.Messages.{shownIn, spanOf, fieldOf, sectionIn, numbered, sectionNumbered, readMessage}
+use Rattle.message.specs.Places.{placesIn, padded, fieldsFound}
+use Rattle.message.proofs.Shown.{frame-shown}
+use Rattle.message.proofs.AcceptedExactlyWhen.{answer}
+
+-- ---- a section by its number
+
+by-tests : (m : List ℕ) (f : Sections) (a b c d e : Bool)
+    → octetsIn (cond a (f .one) (cond b (f .three) (cond c (f .four) (cond d (f .five) (cond e (f .seven) nowhere))))) m
+    ≡ cond a (octetsIn (f .one) m) (cond b (octetsIn (f .three) m) (cond c (octetsIn (f .four) m) (cond d (octetsIn (f .five) m) (cond e (octetsIn (f .seven) m) []))))
+by-tests m f true b c d e = refl
+by-tests m f false true c d e = refl
+by-tests m f false false true d e = refl
+by-tests m f false false false true e = refl
+by-tests m f false false false false true = refl
+by-tests m f false false false false false = refl
+
+by-number : (m : List ℕ) (f : Sections) (n : ℕ) → octetsIn (spanOf f n) m ≡ sectionNumbered (shownIn m f) n
+unfolding numbered
+by-number m f n = by-tests m f (eqb n 1) (eqb n 3) (eqb n 4) (eqb n 5) (eqb n 7)
+
+-- ---- the k-th field
+
+abbrev noFive : Five
+noFive = record { one = []; three = []; four = []; five = []; seven = [] }
+
+found-at : (fs : List Sections) (k : ℕ) → fieldOf (fieldsFound fs) k ≡ getD fs k noSections
+unfolding padded
+found-at fs k = by-room (ltb k (length fs)) refl
+  where
+    by-room : (t : Bool) → ltb k (length fs) ≡ t → cond t (getD (fs ++ replicate (16 - length fs) noSections) k noSections) noSections ≡ getD fs k noSections
+    by-room true e = List·getD-append fs (replicate (16 - length fs) noSections) noSections k (ltb-true k (length fs) e)
+    by-room false e = sym (List·getD-eq-default fs noSections {n = k} (ltb-false k (length fs) e))
+
+-- The k-th field that an accepted message's answer shows is the k-th that its groups leave in force; past the last, no octets.
+pub field-shown : (m : List ℕ) (x : FollowsMessage m) (k : ℕ) → shownIn m (fieldOf (readMessage m) k) ≡ getD (fieldsIn (x .parts)) k noFive
+field-shown m x k =
+    let fs = placesIn (x .parts) in
+    ap (λ (c : Cut). shownIn m (fieldOf c k)) (answer m x)
+    ∙ ap (shownIn m) (found-at fs k)
+    ∙ sym (List·getD-map (shownIn m) fs k noSections)
+    ∙ ap (λ (l : List Five). getD l k noFive) (frame-shown m (x .parts) (x .frame))
+
+pub section-shown : (m : List ℕ) (x : FollowsMessage m) (k n : ℕ) → sectionIn m (readMessage m) k n ≡ sectionNumbered (getD (fieldsIn (x .parts)) k noFive) n
+unfolding sectionIn
+section-shown m x k n = by-number m (fieldOf (readMessage m) k) n ∙ ap (λ (f : Five). sectionNumbered f n) (field-shown m x k)
+
+-- ---- no octets
+
+either-none : (t : Bool) (z : List ℕ) → z ≡ [] → cond t [] z ≡ []
+either-none true z e = refl
+either-none false z e = e
+
+all-none : (n : ℕ) → sectionNumbered noFive n ≡ []
+unfolding numbered
+all-none n = either-none (eqb n 1) _ (either-none (eqb n 3) _ (either-none (eqb n 4) _ (either-none (eqb n 5) _ (either-none (eqb n 7) [] refl))))
+
+-- Past the last field, and of a refused message, which has none, no octets are shown.
+pub none-past : (m : List ℕ) (c : Cut) (k n : ℕ) → c .count ≤ k → sectionIn m c k n ≡ []
+unfolding sectionIn
+none-past m c k n h =
+    by-number m (fieldOf c k) n
+    ∙ ap (λ (t : Bool). sectionNumbered (shownIn m (cond t (getD (c .fields) k noSections) noSections)) n) (le-ltb k (c .count) h)
+    ∙ all-none n

@@ -1,0 +1,6 @@
+pub mod Grammar
+pub mod Walk
+pub mod Messages
+pub mod Places
+pub mod Covering
+pub mod Refused
