@@ -14,6 +14,7 @@ use Rattle.layout.proofs.Ranges.{test-same, same-test}
 use Rattle.message.specs.Walk.{numberIn, mayFollow, otherSix, sectionReasons, sectionRefusal, endReasons, endRefusal}
 use Rattle.layout.specs.declared.Refusal.{Refusal}
 use Rattle.message.specs.Messages.{startReasons, startRefusal}
+use Rattle.message.specs.FirstPlace.{Starts, Clear}
 
 -- where no reason holds, nothing refuses
 none-refuses : (rs : List Reason) → NoneHold rs → firstRefusal 0 rs .number ≡ 0
@@ -24,11 +25,6 @@ none-refuses rs h = ap (λ (x : Refusal). x .number) (refusal-first 0 rs [] ∙ 
 section-numbered : (last count : ℕ) (x : List ℕ) → Numbered (sectionReasons last count x)
 unfolding Numbered
 section-numbered last count x = ((λ h. refl), ((λ h. refl), ((λ h. refl), tt)))
-
-pub record Clear (last count : ℕ) (x : List ℕ) : Type 0 where
-  pub follows : mayFollow last (numberIn x) ≡ true
-  pub six : otherSix x ≡ false
-  pub room : count < 16
 
 pub clear : (last count : ℕ) (x : List ℕ) → sectionRefusal last count x .number ≡ 0 → Clear last count x
 unfolding sectionRefusal NoneHold
@@ -50,13 +46,6 @@ end-clear last right e =
     (test-same _ _ (h .0), not-false _ (h .1 .0))
 
 -- ---- the start
-
-pub record Starts (m : List ℕ) : Type 0 where
-  pub short : length m ≤ 65536
-  pub least : 20 ≤ length m
-  pub start : beAt m 1 4 ≡ 0x47524942
-  pub edition : beAt m 8 1 ≡ 2
-  pub total : beAt m 9 8 ≡ length m
 
 start-numbered : (m : List ℕ) → Numbered (startReasons m)
 unfolding Numbered

@@ -17,7 +17,8 @@ use Rattle.message.specs.Walk.{mayFollow, withSection, inForce, startWal
 use Rattle.message.specs.Grammar.{Is, FirstComplete, Group, allSections, oneBehindTheOther, AreGroups, Parts, behindZero, IsFrame}
 use Rattle.message.specs.Messages.{endsRight, bodyOf, sectionsIn, cutMessage, Accepted}
 use Rattle.message.specs.Places.{spanAt, placesIn, fieldsFound, padded}
-use Rattle.message.proofs.Clear.{Starts, starts, started}
+use Rattle.message.specs.FirstPlace.{Starts}
+use Rattle.message.proofs.Clear.{starts, started}
 use Rattle.message.proofs.Sizes.{AllSized, each-sized, all-sized, sized-groups}
 use Rattle.message.proofs.Steps.{Steps, unless-accepted, judged-steps}
 use Rattle.message.proofs.Parsing.{next, cutoff, Grouped, grouped, together}
@@ -68,7 +69,7 @@ three-parts m h =
     )
 
 -- the last four octets by their place in the message
-last-four : (m : List ℕ) → beAt (drop (length m - 4) m) 1 4 ≡ beAt m (length m - 4 + 1) 4
+pub last-four : (m : List ℕ) → beAt (drop (length m - 4) m) 1 4 ≡ beAt m (length m - 4 + 1) 4
 last-four m =
     let place : 1 + (length m - 4) ≡ length m - 4 + 1 = omega arith in
     beAt-drop m (length m - 4) 1 4 (omega arith) ∙ ap (λ (n : ℕ). beAt m n 4) place
@@ -102,34 +103,38 @@ frame-of m a =
 
 -- ---- and a frame is accepted
 
--- its first 16 octets, its last four, and those between
-module _ (m : List ℕ) (p : Parts) (f : IsFrame m p) where
-  ahead : List ℕ
-  ahead = p .zero ++ oneBehindTheOther (behindZero p)
+-- of 16 octets, those between, and 4 octets
+module _ (m zero mid end : List ℕ) (strung : m ≡ zero ++ (mid ++ end)) (sixteen : length zero ≡ 16) (four : length end ≡ 4) where
+  whole : m ≡ (zero ++ mid) ++ end
+  whole = strung ∙ sym (append-assoc zero mid end)
 
-  whole : m ≡ ahead ++ p .end
-  unfolding ahead
-  whole = f .strung ∙ sym (append-assoc (p .zero) (oneBehindTheOther (behindZero p)) (p .end))
+  long : length (zero ++ mid) ≡ length m - 4
+  long = omega (arith, ap length whole, length-append (zero ++ mid) end)
 
-  long : length ahead ≡ length m - 4
-  long = omega (arith, ap length whole, length-append ahead (p .end), f .four)
+  first-16 : take 16 m ≡ zero
+  first-16 = ap (take 16) strung ∙ take-at zero (mid ++ end) 16 sixteen
 
-  pub zero-is : take 16 m ≡ p .zero
-  zero-is = ap (take 16) (f .strung) ∙ take-at (p .zero) (oneBehindTheOther (behindZero p) ++ p .end) 16 (f .sixteen)
+  pub last-4 : drop (length m - 4) m ≡ end
+  last-4 = ap (drop (length m - 4)) whole ∙ drop-at (zero ++ mid) end (length m - 4) long
 
-  pub end-is : drop (length m - 4) m ≡ p .end
-  end-is = ap (drop (length m - 4)) whole ∙ drop-at ahead (p .end) (length m - 4) long
-
-  middle : drop 16 (bodyOf m) ≡ oneBehindTheOther (behindZero p)
-  unfolding ahead
+  pub middle : drop 16 (bodyOf m) ≡ mid
   middle =
       ap (λ (s : List ℕ). drop 16 (take (length m - 4) s)) whole
-      ∙ ap (drop 16) (take-at ahead (p .end) (length m - 4) long)
-      ∙ drop-at (p .zero) (oneBehindTheOther (behindZero p)) 16 (f .sixteen)
+      ∙ ap (drop 16) (take-at (zero ++ mid) end (length m - 4) long)
+      ∙ drop-at zero mid 16 sixteen
+
+module _ (m : List ℕ) (p : Parts) (f : IsFrame m p) where
+  pub zero-is : take 16 m ≡ p .zero
+  zero-is = first-16 m (p .zero) (oneBehindTheOther (behindZero p)) (p .end) (f .strung) (f .sixteen) (f .four)
+
+  pub end-is : drop (length m - 4) m ≡ p .end
+  end-is = last-4 m (p .zero) (oneBehindTheOther (behindZero p)) (p .end) (f .strung) (f .sixteen) (f .four)
 
   pub sections-are : sectionsIn m ≡ record { items = behindZero p; whole = true }
   unfolding AllSized
-  sections-are = rw middle (cut-sections (behindZero p) (each-sized (behindZero p) (f .one .sized, sized-groups (p .groups) (f .groups))))
+  sections-are =
+      rw (middle m (p .zero) (oneBehindTheOther (behindZero p)) (p .end) (f .strung) (f .sixteen) (f .four))
+      (cut-sections (behindZero p) (each-sized (behindZero p) (f .one .sized, sized-groups (p .groups) (f .groups))))
 
   frame-starts : Starts m
   frame-starts =

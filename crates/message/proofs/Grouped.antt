@@ -18,7 +18,8 @@ use Rattle.message.specs.declared.Cut.{Cut}
 use Rattle.message.specs.Walk.{Walk, mayFollow, otherSix, endRefusal, inForce, oneMore, withSection, noSections, judgedIn}
 use Rattle.message.specs.Grammar.{Is, Opening, atTwo, atThree, atFour, Opens, Complete, Group, opened, sectionsOf, allSections, IsGroup, AreGroups}
 use Rattle.message.specs.Places.{spanAt, fourAfter, threeAt, placeOf, nextAfter, placesOf, padded, fieldsFound}
-use Rattle.message.proofs.Clear.{Clear, unrefused}
+use Rattle.message.specs.FirstPlace.{Clear}
+use Rattle.message.proofs.Clear.{unrefused}
 use Rattle.message.proofs.Walks.{judged-on}
 
 -- what is judged of a message that is all sections and ends in 7777

@@ -12,3 +12,7 @@ pub mod CoveredOnce
 pub mod Unambiguous
 pub mod Marks
 pub mod Views
+pub mod RefusalNumbers
+pub mod FrameAndFields
+pub mod Entries
+pub mod FirstPlace

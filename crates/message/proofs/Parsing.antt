@@ -15,7 +15,8 @@ use Rattle.layout.proofs.Ranges.{both-hold, between-in}
 use Rattle.message.specs.Walk.{numberIn, mayFollow, otherSix}
 use Rattle.message.specs.Grammar.{Is, Opening, atTwo, atThree, atFour, Opens, Complete, Group, opened, sectionsOf, allSections, IsGroup, AreGroups}
 use Rattle.message.proofs.Sizes.{AllSized}
-use Rattle.message.proofs.Steps.{fieldsAfter, Steps}
+use Rattle.message.specs.FirstPlace.{fieldsAfter}
+use Rattle.message.proofs.Steps.{Steps}
 
 -- ---- which section comes next
 

@@ -13,11 +13,8 @@ use Rattle.message.specs.declared.Sections.{Sections}
 use Rattle.message.specs.declared.Cut.{Cut}
 use Rattle.message.specs.Walk.{Walk, numberIn, sectionRefusal, endRefusal, noSection, oneMore, withSection, taken, refusedWith, unlessRefused, judgedIn}
 use Rattle.message.specs.Messages.{Accepted}
-use Rattle.message.proofs.Clear.{Clear, clear, end-clear}
-
--- a section 7 is one field more
-abbrev pub fieldsAfter : ℕ → ℕ → ℕ
-fieldsAfter n count = cond (eqb n 7) (count + 1) count
+use Rattle.message.specs.FirstPlace.{Clear, fieldsAfter}
+use Rattle.message.proofs.Clear.{clear, end-clear}
 
 -- from section to section, each may stand there, and the last is a 7
 unfoldable pub Steps : ℕ → ℕ → List (List ℕ) → Type 0
@@ -32,7 +29,7 @@ unless-accepted x c a = by-number (eqb (x .number) 0) refl a
     by-number true e a = (eqb-true _ _ e, a)
     by-number false e a = absurd (omega arith)
 
-count-after : (t : Bool) (c : Cut) (f : Sections) → cond t (oneMore c f) c .count ≡ cond t (c .count + 1) (c .count)
+pub count-after : (t : Bool) (c : Cut) (f : Sections) → cond t (oneMore c f) c .count ≡ cond t (c .count + 1) (c .count)
 count-after true c f = refl
 count-after false c f = refl
 

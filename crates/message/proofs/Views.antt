@@ -1,21 +1,23 @@
 -- What a caller is shown: of an accepted message the k-th field's sections, and of anything else no octets.
 -- Assumes nothing.
 use Prim.Native.Nat.{ℕ, _-_, _≤_}
-use mathlib.Core.Path.{_≡_, refl, ap, sym, _∙_}
+use native.Mathlib.Omega.{arith}
+use mathlib.Core.Path.{_≡_, refl, ap, sym, subst, _∙_}
 use mathlib.Core.Bool.{Bool, true, false, cond}
 use mathlib.Core.List.{List, [], _++_}
 use lib.Dec.{ltb, eqb}
 use lib.ListN.{length, getD, replicate, List·getD-map, List·getD-append, List·getD-eq-default}
 use borrow.Author.Tests.{ltb-true, ltb-false, le-ltb}
 use Rattle.layout.specs.Spans.{nowhere, octetsIn}
+use Rattle.layout.proofs.Refusals.{by-test}
 use Rattle.message.specs.declared.Sections.{Sections}
 use Rattle.message.specs.declared.Cut.{Cut}
 use Rattle.message.specs.Walk.{noSections}
 use Rattle.message.specs.Grammar.{Five, fieldsIn, FollowsMessage}
 use Rattle.message.specs.Messages.{shownIn, spanOf, fieldOf, sectionIn, numbered, sectionNumbered, readMessage}
-use Rattle.message.specs.Places.{placesIn, padded, fieldsFound}
-use Rattle.message.proofs.Shown.{frame-shown}
-use Rattle.message.proofs.AcceptedExactlyWhen.{answer}
+use Rattle.message.specs.Places.{placesIn, padded, fieldsFound, FieldWithin}
+use Rattle.message.proofs.Shown.{frame-shown, nowhere-within, frame-within}
+use Rattle.message.proofs.AcceptedExactlyWhen.{answer, accepted-exactly-when}
 
 -- ---- a section by its number
 
@@ -76,3 +78,14 @@ none-past m c k n h =
     by-number m (fieldOf c k) n
     ∙ ap (λ (t : Bool). sectionNumbered (shownIn m (cond t (getD (c .fields) k noSections) noSections)) n) (le-ltb k (c .count) h)
     ∙ all-none n
+
+-- ---- where they stand, the message has all of their octets
+
+pub field-within : (m : List ℕ) (k : ℕ) → FieldWithin (fieldOf (readMessage m) k) m
+field-within m k = by-test (λ (t : Bool). FieldWithin (cond t (getD (readMessage m .fields) k noSections) noSections) m) (ltb k (readMessage m .count)) found (λ e. nowhere-within m)
+  where
+    found : ltb k (readMessage m .count) ≡ true → FieldWithin (getD (readMessage m .fields) k noSections) m
+    found e =
+        let x = accepted-exactly-when m .0 (omega (arith, ltb-true k (readMessage m .count) e)) in
+        let same : fieldOf (readMessage m) k ≡ getD (placesIn (x .parts)) k noSections = ap (λ (c : Cut). fieldOf c k) (answer m x) ∙ found-at (placesIn (x .parts)) k in
+        subst (λ (f : Sections). FieldWithin f m) (sym same ∙ rw e refl) (frame-within m (x .parts) (x .frame) k)

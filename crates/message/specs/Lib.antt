@@ -3,4 +3,5 @@ pub mod Walk
 pub mod Messages
 pub mod Places
 pub mod Covering
+pub mod FirstPlace
 pub mod Refused
