@@ -10,7 +10,7 @@ use lib.Dec.{eqb}
 use lib.ListN.{length}
 use borrow.Author.Tests.{eq-eqb, eqb-true, eqb-false}
 use Rattle.layout.specs.Outcomes.{refused, refusal, noRefusal}
-use Rattle.layout.specs.Refusals.{Listed}
+use Rattle.layout.specs.Refusals.{lastPlace, Listed}
 use Rattle.layout.specs.declared.Refusal.{Refusal}
 use Rattle.layout.proofs.Outcomes.{either}
 use Rattle.layout.proofs.Refusals.{by-test, wider, placeless, AllListed, first-listed, proper}
@@ -24,6 +24,7 @@ use Rattle.message.specs.Grammar.{Five}
 use Rattle.message.specs.Messages.{startReasons, startRefusal, endsRight, sectionsIn, cutMessage, outcomeOf, orRefused, foundIn, fieldsRead, readMessage, Accepted}
 use Rattle.message.specs.Refused.{messageTable, Decided}
 use Rattle.message.proofs.Clear.{end-clear}
+use Rattle.message.proofs.AcceptedExactlyWhen.{count-is, accepted-exactly-when}
 
 -- ---- one refusal, or what is said where there is none
 
@@ -109,3 +110,14 @@ accepted-is-0 m = (
   λ a. ⊎-elim (λ y. ap (λ (x : Refusal). x .number) (y .1)) (λ n. absurd (omega (arith, ap (λ (c : Cut). c .count) (n .0), a))) (message-refuses m),
   λ e. ⊎-elim (λ y. y .0) (λ n. absurd (never-0 (readMessage m .refusal) (n .1) e)) (message-refuses m),
 )
+
+-- ---- what an answer's numbers are at most
+
+pub place-within : (m : List ℕ) → readMessage m .refusal .place ≤ lastPlace
+place-within m = ⊎-elim (λ y. omega (arith, ap (λ (x : Refusal). x .place) (y .1))) (λ n. n .1 .placed .within) (message-refuses m)
+
+pub few-fields : (m : List ℕ) → readMessage m .count ≤ 16
+few-fields m =
+    ⊎-elim (λ y. let x = accepted-exactly-when m .0 (y .0) in omega (arith, count-is m x, x .frame .most))
+    (λ n. omega (arith, ap (λ (c : Cut). c .count) (n .0)))
+    (message-refuses m)

@@ -1,6 +1,6 @@
 -- What the number says that C is answered: which refusal it is, and when it is 0.
 -- Assumes nothing.
-use Prim.Native.Nat.{ℕ, _+_, _^_, _≤_, _<_}
+use Prim.Native.Nat.{ℕ, _+_, _*_, _^_, _≤_, _<_}
 use native.Mathlib.Omega.{arith}
 use mathlib.Core.Path.{_≡_, refl, ap, _∙_}
 use mathlib.Core.Logic.{_↔_}
@@ -8,7 +8,7 @@ use mathlib.Core.Bool.{Bool, true, false, cond, _&&_}
 use mathlib.Core.List.{List, [], _∷_}
 use lib.Dec.{eqb, ltb, leb}
 use lib.IntN.{ℤ}
-use lib.ListN.{length}
+use lib.ListN.{length, take, drop}
 use borrow.Author.Tests.{le-ltb, ltb-false, lt-ltb, ltb-true, le-leb, leb-true, eq-eqb, eqb-true, eqb-false}
 use Rattle.octets.specs.Octets.{AllOctets, beAt}
 use Rattle.layout.specs.Outcomes.{refused, refusal}
@@ -35,6 +35,11 @@ use Rattle.queue.specs.Queues.{recordStep, recordsFiled, fromStart, queueRefusa
 use Rattle.queue.specs.Spelled.{FollowsQueue}
 use Rattle.queue.proofs.Spelled.{accepted-exactly-when as exactly-queued}
 use Rattle.report.specs.Texts.{listing}
+use Rattle.message.specs.declared.Cut.{Cut}
+use Rattle.message.specs.Grammar.{FollowsMessage}
+use Rattle.message.specs.Messages.{fieldOf, readMessage}
+use Rattle.message.proofs.AcceptedExactlyWhen.{accepted-exactly-when as exactly-message}
+use Rattle.message.proofs.RefusalNumbers.{accepted-is-0}
 use Rattle.lent.specs.Lent.{Done, done, doneBoth, over, withCount, ifRoom}
 use Rattle.lent.proofs.Answers.{room-left, room-exactly as exactly}
 use Rattle.values.specs.Accepted.{FollowsNumbered}
@@ -42,6 +47,8 @@ use Rattle.values.proofs.AcceptedExactlyWhen.{numbered-5, numbered-7}
 use Rattle.values.proofs.RecordRead.{accepting}
 use Rattle.skogmund.specs.Entries.{code, codeOf, coded, noRoom, rowUnpacked, listingTold}
 use Rattle.skogmund.specs.Parts.{partTold}
+use Rattle.skogmund.specs.Messages.{fieldSpans, spansOf, roomFor, messageTold}
+use Rattle.skogmund.proofs.Spans.{told-at, told-past}
 use Rattle.skogmund.specs.Shelves.{isShelf, emptied, joined, keptIn, Room, fieldKept, filedField, Files, FieldTold, queueKept, filedQueue, QueueTold, slotNumbers, slotShown}
 
 -- ---- which refusal it is
@@ -89,6 +96,46 @@ part-exactly-when part s k places = room-exactly _ _ _ (many-exactly 2 places)
 pub listed-exactly-when : (q text places : List ℕ) → (listingTold q text places .answer ≡ 0) ↔ ((length (listing q) ≤ length text) × (0 < length places))
 unfolding listingTold
 listed-exactly-when q text places = room-exactly _ _ _ (both-exactly (many-exactly (length (listing q)) text) (ltb-true _ _, lt-ltb _ _))
+
+abbrev cut-told : Cut → List ℕ → List ℕ → Bool → Done ℕ (List ℕ × List ℕ)
+cut-told c spans places t =
+    cond t (ifRoom 0 noRoom (roomFor spans places) (over spans (spansOf c), over places (c .count ∷ [])) (spans, places)) (doneBoth (codeOf (c .refusal)) spans places)
+
+-- the message follows, and there is room for 16 fields and for their count
+abbrev TellsMessage : List ℕ → List ℕ → List ℕ → Type 0
+TellsMessage m spans places = FollowsMessage m × (160 ≤ length spans) × (0 < length places)
+
+pub message-left : (m spans places : List ℕ) → messageTold m spans places .answer ≡ 0
+    → TellsMessage m spans places × (messageTold m spans places .lent ≡ (over spans (spansOf (readMessage m)), over places (readMessage m .count ∷ [])))
+unfolding messageTold
+message-left m spans places e = by (readMessage m) (λ z. exactly-message m .0 (accepted-is-0 m .1 z)) (eqb (readMessage m .refusal .number) 0) refl e
+  where
+    by : (c : Cut) → (c .refusal .number ≡ 0 → FollowsMessage m) → (t : Bool) → eqb (c .refusal .number) 0 ≡ t → cut-told c spans places t .answer ≡ 0
+        → TellsMessage m spans places × (cut-told c spans places t .lent ≡ (over spans (spansOf c), over places (c .count ∷ [])))
+    by c follows true h e =
+        let l = room-left 0 noRoom no-room-refuses (roomFor spans places) _ (spans, places) e in
+        let r = both-hold _ _ (l .0) in
+        ((follows (eqb-true _ _ h), leb-true _ _ (r .0), ltb-true _ _ (r .1)), l .1)
+    by c follows false h e = absurd (eqb-false (c .refusal .number) 0 h (omega (arith, e)))
+
+pub message-exactly-when : (m spans places : List ℕ) → (messageTold m spans places .answer ≡ 0) ↔ (FollowsMessage m × (160 ≤ length spans) × (0 < length places))
+unfolding messageTold
+message-exactly-when m spans places = (
+  (λ e. message-left m spans places e .0),
+  (λ f. rw (eq-eqb _ _ (accepted-is-0 m .0 (exactly-message m .1 (f .0))), le-leb _ _ (f .1), lt-ltb _ _ (f .2))),
+)
+
+-- by field: its ten numbers stand in places 10 k to 10 k + 9, counted from 0, and the places past the last field's are as they were
+pub message-spans : (m spans places : List ℕ) → messageTold m spans places .answer ≡ 0
+    → ((k : ℕ) → k < readMessage m .count → take 10 (drop (10 * k) (messageTold m spans places .lent .0)) ≡ fieldSpans (fieldOf (readMessage m) k))
+    × (drop (10 * readMessage m .count) (messageTold m spans places .lent .0) ≡ drop (10 * readMessage m .count) spans)
+unfolding spansOf
+message-spans m spans places e =
+    let c = readMessage m in
+    let left = ap (λ (l : List ℕ × List ℕ). l .0) (message-left m spans places e .1) in (
+      (λ k h. ap (λ (l : List ℕ). take 10 (drop (10 * k) l)) left ∙ told-at (λ (j : ℕ). fieldSpans (fieldOf c j)) (λ j. refl) spans (c .count) k h),
+      ap (drop (10 * c .count)) left ∙ told-past (λ (j : ℕ). fieldSpans (fieldOf c j)) (λ j. refl) spans (c .count),
+    )
 
 pub emptied-exactly-when : (s : List ℕ) → (emptied s .answer ≡ 0) ↔ (length s ≡ 2624)
 unfolding emptied

@@ -6,6 +6,7 @@ use Rattle.lent.specs.Lent.{done, doneBoth}
 use Rattle.skogmund.specs.Entries.{recordTold, rowUnpacked, listingTold}
 use Rattle.skogmund.specs.Shelves.{emptied, joined, filedField, filedQueue, slotShown}
 use Rattle.skogmund.specs.Parts.{partTold}
+use Rattle.skogmund.specs.Messages.{messageTold}
 use Rattle.entry.specs.Entry.{Entry}
 use Rattle.skogmund.proofs as code
 
@@ -20,6 +21,9 @@ skogmund-unpack = record { takes = λ lent given. tt; ends = code.skogmund_unpac
 
 pub skogmund-list : Entry code.skogmund_list.Reads.Asked code.skogmund_list.Reads.Learnt code.skogmund_list.Statement.statement (λ given r later. doneBoth r (now (later .1 .0)) (now (later .1 .1 .0)) ≡ listingTold (now (given .0)) (now (given .1 .0)) (now (given .1 .1 .0)))
 skogmund-list = record { takes = λ lent given. tt; ends = code.skogmund_list.Met.met; tells = λ lent given r later e. e }
+
+pub skogmund-message : Entry code.messages.skogmund_message.Reads.Asked code.messages.skogmund_message.Reads.Learnt code.messages.skogmund_message.Statement.statement (λ given r later. doneBoth r (now (later .1 .0)) (now (later .1 .1 .0)) ≡ messageTold (now (given .0)) (now (given .1 .0)) (now (given .1 .1 .0)))
+skogmund-message = record { takes = λ lent given. tt; ends = code.messages.skogmund_message.Met.met; tells = λ lent given r later e. e }
 
 pub skogmund-empty : Entry code.shelves.skogmund_empty.Reads.Asked code.shelves.skogmund_empty.Reads.Learnt code.shelves.skogmund_empty.Statement.statement (λ given r later. done r (now (later .0)) ≡ emptied (now (given .0)))
 skogmund-empty = record { takes = λ lent given. tt; ends = code.shelves.skogmund_empty.Met.met; tells = λ lent given r later e. e }

@@ -3,3 +3,5 @@ pub mod RefusalsLeaveAll
 pub mod RecordTold
 pub mod Answered
 pub mod Entries
+pub mod Spans
+pub mod MessagesWithin

@@ -4,7 +4,7 @@ use Prim.Native.Nat.{ℕ}
 use mathlib.Core.Path.{refl, ap}
 use mathlib.Core.Bool.{_&&_}
 use mathlib.Core.List.{List, [], _∷_}
-use lib.Dec.{ltb, leb}
+use lib.Dec.{eqb, ltb, leb}
 use lib.IntN.{ℤ}
 use lib.ListN.{length, drop}
 use Rattle.layout.specs.Outcomes.{Outcome, refused, read}
@@ -20,15 +20,17 @@ use Rattle.filing.specs.Filing.{filedOf, issueFrom}
 use Rattle.queue.specs.declared.QueueAnswer.{QueueAnswer}
 use Rattle.queue.specs.declared.QueueAnswer.the-variants.{Filed as filedAll, Refused as refusedAll}
 use Rattle.queue.specs.Queues.{queueFiled}
+use Rattle.message.specs.Messages.{readMessage}
 use Rattle.lent.specs.Lent.{done, Untouched}
 use Rattle.values.specs.Records.{sectionOutcome}
 use Rattle.lent.proofs.Answers.{room-leaves}
 use Rattle.values.proofs.RecordRead.{row-stays}
 use Rattle.skogmund.specs.Entries.{codeOf, coded, noRoom, rowUnpacked, recordTold, fits, listingTold}
 use Rattle.skogmund.specs.Parts.{partTold}
+use Rattle.skogmund.specs.Messages.{roomFor, messageTold}
 use Rattle.skogmund.specs.Shelves.{isShelf, emptied, joined, keptIn, fieldKept, filedField, queueKept, filedQueue, slotShown}
 
--- ---- sections and listings
+-- ---- sections, listings and messages
 
 pub unpack-leaves : (five seven row : List ℕ) → Untouched 0 row (rowUnpacked five seven row)
 unfolding rowUnpacked rowAfter
@@ -49,6 +51,11 @@ part-leaves part s k places = room-leaves 0 noRoom (leb 2 (length places)) _ pla
 pub list-leaves : (q text places : List ℕ) → Untouched 0 (text, places) (listingTold q text places)
 unfolding listingTold
 list-leaves q text places = room-leaves 0 noRoom (fits q text places) _ (text, places)
+
+pub message-leaves : (m spans places : List ℕ) → Untouched 0 (spans, places) (messageTold m spans places)
+unfolding messageTold
+message-leaves m spans places =
+    either (Untouched 0 (spans, places)) (eqb (readMessage m .refusal .number) 0) (room-leaves 0 noRoom (roomFor spans places) _ (spans, places)) (λ h. refl)
 
 -- ---- shelves as octets
 

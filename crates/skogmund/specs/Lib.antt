@@ -1,3 +1,4 @@
 pub mod Entries
 pub mod Parts
+pub mod Messages
 pub mod Shelves

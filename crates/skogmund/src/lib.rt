@@ -8,6 +8,7 @@ ghost use Rattle.skogmund.specs.Entries.{codeOf, rowUnpacked, recordTold
 use layout::Refusal;
 use packing::Unpacked;
 
+pub mod messages;
 pub mod part;
 pub mod shelves;
 

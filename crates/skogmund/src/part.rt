@@ -31,7 +31,7 @@ fn span_of(part: u8, s: &[u8], k: usize) -> Span
 }
 
 // Octets are counted from 1, and 0 says that there is none. A part is within a slice, which has fewer than 2^63 octets.
-fn first_octet(x: Span) -> u64
+pub(crate) fn first_octet(x: Span) -> u64
     requires { ⌜ x .before < 2 ^ 63 ⌝ }
     ensures { λ r. ⌜ r ≡ firstOctet x ⌝ }
 {
