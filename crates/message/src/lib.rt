@@ -13,6 +13,7 @@ use layout::Span;
 
 // GRIB and 7777, as numbers of four octets.
 const START: u32 = 0x4752_4942;
+
 const END: u32 = 0x3737_3737;
 
 // Where the five sections of a field stand in their message.

@@ -11,6 +11,7 @@ use message::Sections;
 
 // Of a field five spans of two numbers each; a message has at most 16 fields.
 const OF_A_FIELD: usize = 10;
+
 const SPANS: usize = 160;
 
 // The fields' sections, first octet (from 1) and length of each, in the first places, and how many fields there are.

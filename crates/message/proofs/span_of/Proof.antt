@@ -16,6 +16,6 @@ span-of-spec =
     (λ c. rw (c .before .match .keys4))
     (λ c. rw (c .before .match .keys5))
     (λ c.
-      let other = c .before .match .rest in
-      rw (ne-eqb _ _ (other .0 .0 .0 .0 .1), ne-eqb _ _ (other .0 .0 .0 .1), ne-eqb _ _ (other .0 .0 .1), ne-eqb _ _ (other .0 .1), ne-eqb _ _ (other .1))
-      (c .after .ensures)))
+    let other = c .before .match .rest in
+    rw (ne-eqb _ _ (other .0 .0 .0 .0 .1), ne-eqb _ _ (other .0 .0 .0 .1), ne-eqb _ _ (other .0 .0 .1), ne-eqb _ _ (other .0 .1), ne-eqb _ _ (other .1))
+    (c .after .ensures)))

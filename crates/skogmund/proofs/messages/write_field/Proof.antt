@@ -19,17 +19,17 @@ returns c =
     let s = o1 .before .before in
     let f = s .args .sections in
     let numbers =
-        o1 .first-octet .result
-        ∷ f .one .length
-        ∷ o2 .first-octet2 .result
-        ∷ f .three .length
-        ∷ o3 .first-octet3 .result
-        ∷ f .four .length
-        ∷ o4 .first-octet4 .result
-        ∷ f .five .length
-        ∷ o5 .first-octet5 .result
-        ∷ f .seven .length
-        ∷ [] in
+    o1 .first-octet .result
+    ∷ f .one .length
+    ∷ o2 .first-octet2 .result
+    ∷ f .three .length
+    ∷ o3 .first-octet3 .result
+    ∷ f .four .length
+    ∷ o4 .first-octet4 .result
+    ∷ f .five .length
+    ∷ o5 .first-octet5 .result
+    ∷ f .seven .length
+    ∷ [] in
     part-written (now (s .args .spans)) numbers _ (s .args .at) (s .pre .1) (n .numbers2 .ensures)
     ∙ simp (o1 .first-octet .ensures, o2 .first-octet2 .ensures, o3 .first-octet3 .ensures, o4 .first-octet4 .ensures, o5 .first-octet5 .ensures)
 
