@@ -13,6 +13,7 @@ pub use Rattle.grid.proofs.Entries as grid-entries
 pub use Rattle.product.proofs.Entries as product-entries
 pub use Rattle.packing.proofs.Entries as packing-entries
 pub use Rattle.field.proofs.Entries as field-entries
+pub use Rattle.message.proofs.Entries as message-entries
 pub use Rattle.card.proofs.Entries as card-entries
 pub use Rattle.shelf.proofs.Entries as shelf-entries
 pub use Rattle.shelf_octets.proofs.Entries as shelf-octets-entries
@@ -35,16 +36,17 @@ pub use Rattle.grid.proofs.RefusalNumbers.{grid-refuses}
 pub use Rattle.product.proofs.RefusalNumbers.{product-refuses}
 pub use Rattle.packing.proofs.RefusalNumbers.{packing-refuses, data-refuses, unpacking-refuses}
 pub use Rattle.field.proofs.RefusalNumbers.{field-refuses}
+pub use Rattle.message.proofs.RefusalNumbers.{message-refuses}
 pub use Rattle.filing.proofs.RefusalNumbers.{filing-refuses}
 pub use Rattle.queue.proofs.RefusalNumbers.{record-refuses, queue-refuses, queue-number}
 pub use Rattle.values.proofs.RecordRead.{read-into-refuses}
 -- Of the entries for C: each answers 0, or one number for a refusal that a table lists, and no two refusals have the same;
-pub use Rattle.demands.proofs.NumbersForC.{unpack-answers, read-answers, part-answers, list-answers, empty-answers, join-answers, slot-answers, field-answers, queue-answers, one-refusal}
+pub use Rattle.demands.proofs.NumbersForC.{unpack-answers, read-answers, part-answers, list-answers, message-answers, empty-answers, join-answers, slot-answers, field-answers, queue-answers, one-refusal}
 -- it can be taken apart, and is 0 exactly where nothing is refused (of `skogmund_read`: `told-exactly-when`, demand 2)
-pub use Rattle.skogmund.proofs.Answered.{taken-apart, listed-code, unpacked-exactly-when, part-exactly-when, listed-exactly-when, emptied-exactly-when, joined-exactly-when, shown-exactly-when, filed-exactly-when, queue-exactly-when}
+pub use Rattle.skogmund.proofs.Answered.{taken-apart, listed-code, unpacked-exactly-when, part-exactly-when, listed-exactly-when, message-exactly-when, emptied-exactly-when, joined-exactly-when, shown-exactly-when, filed-exactly-when, queue-exactly-when}
 -- "A refusal changes no shelf and no lent buffer.": the theorems of this file, and of `values::read_into` and the entries for C
 pub use Rattle.values.proofs.RecordRead.{row-stays}
-pub use Rattle.skogmund.proofs.RefusalsLeaveAll.{unpack-leaves, read-leaves, part-leaves, list-leaves, empty-leaves, join-leaves, field-leaves, queue-leaves, slot-leaves}
+pub use Rattle.skogmund.proofs.RefusalsLeaveAll.{unpack-leaves, read-leaves, part-leaves, list-leaves, message-leaves, empty-leaves, join-leaves, field-leaves, queue-leaves, slot-leaves}
 use Prim.Native.Nat.{ℕ}
 use mathlib.Core.Path.{_≡_, refl, sym, ap, _∙_}
 use mathlib.Core.List.{List}

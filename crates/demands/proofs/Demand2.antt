@@ -291,7 +291,7 @@ pub parts-within : (part : ℕ) (s : List ℕ) (k : ℕ) → Within (partSpan pa
 parts-within = part-within
 
 -- and they are those that the view shows: from that octet on, so many
-octets-told : (before n : ℕ) (s : List ℕ) → before + n ≤ length s → part s (cond (eqb n 0) 0 (before + 1)) n ≡ take n (drop before s)
+pub octets-told : (before n : ℕ) (s : List ℕ) → before + n ≤ length s → part s (cond (eqb n 0) 0 (before + 1)) n ≡ take n (drop before s)
 unfolding part
 octets-told before zero s h = refl
 octets-told before (suc n) s h = rw (ne-eqb (suc n) 0 (λ e. omega arith)) (part-take s before (suc n) h)

@@ -9,3 +9,4 @@ pub mod ShelvesForC
 pub mod NumbersForC
 pub mod Twelve
 pub mod ShortOrLong
+pub mod Messages

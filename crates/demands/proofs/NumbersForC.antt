@@ -3,22 +3,25 @@
 use Prim.Native.Nat.{ℕ, _≤_, _<_}
 use native.Mathlib.Omega.{arith}
 use mathlib.Core.Path.{_≡_, refl, sym, ap}
-use mathlib.Core.Logic.{_⊎_, inl, inr}
+use mathlib.Core.Logic.{_⊎_, inl, inr, ⊎-elim}
 use mathlib.Core.Bool.{Bool, true, false, cond, true≢false, _&&_}
 use mathlib.Core.List.{List, [], _∷_}
 use lib.Dec.{eqb, ltb, leb}
 use lib.IntN.{ℤ}
 use lib.ListN.{length}
-use borrow.Author.Tests.{leb-true, eqb-true}
+use borrow.Author.Tests.{leb-true, eqb-true, eqb-false}
 use Rattle.layout.specs.Outcomes.{Outcome, refused, read, noRefusal, refusal}
 use Rattle.layout.specs.Refusals.{Row, oneOf, numbersOf, hasPlace, Listed}
 use Rattle.layout.proofs.Outcomes.{either}
-use Rattle.layout.proofs.Refusals.{wider, Refuses, placeless}
+use Rattle.layout.proofs.Refusals.{by-test, wider, Refuses, placeless}
 use Rattle.layout.specs.declared.Refusal.{Refusal}
 use Rattle.layout.proofs.Ranges.{both-hold}
 use Rattle.packing.specs.Unpacking.{unpackOutcome}
 use Rattle.packing.specs.Refused.{unpackTable}
 use Rattle.packing.proofs.RefusalNumbers.{unpack-refuses}
+use Rattle.message.specs.Messages.{readMessage}
+use Rattle.message.specs.Refused.{messageTable}
+use Rattle.message.proofs.RefusalNumbers.{message-refuses}
 use Rattle.shelf.specs.declared.Shelf.{Shelf}
 use Rattle.shelf_octets.specs.ShelfOctets.{shelfIn}
 use Rattle.filing.specs.declared.Answer.{Answer}
@@ -31,14 +34,15 @@ use Rattle.queue.specs.declared.QueueAnswer.the-variants.{Filed as filedAll, Re
 use Rattle.queue.specs.Queues.{queueFiled}
 use Rattle.queue.specs.Refused.{queueTable}
 use Rattle.queue.proofs.RefusalNumbers.{queue-refuses}
-use Rattle.lent.specs.Lent.{Done, ifRoom}
+use Rattle.lent.specs.Lent.{Done, doneBoth, over, ifRoom}
 use Rattle.values.specs.Refused.{readTable}
 use Rattle.values.proofs.RecordRead.{read-into-refuses}
 use Rattle.skogmund.specs.Entries.{code, codeOf, coded, noRoom, rowUnpacked, recordTold, fits, listingTold}
 use Rattle.skogmund.specs.Parts.{partTold}
+use Rattle.skogmund.specs.Messages.{spansOf, roomFor, messageTold}
 use Rattle.skogmund.specs.Shelves.{isShelf, emptied, joined, keptIn, fieldKept, filedField, queueKept, filedQueue, slotShown}
 use Rattle.skogmund.proofs.Answered.{taken-apart}
-use Rattle.demands.specs.NumbersForC.{Answers, octetSections, roomTable, slotTable, fileTable, fileQueueTable}
+use Rattle.demands.specs.NumbersForC.{Answers, octetSections, roomTable, messageForCTable, slotTable, fileTable, fileQueueTable}
 
 -- ---- one number, one refusal
 
@@ -94,6 +98,16 @@ part-answers part s k places = room-answers roomTable (leb 2 (length places)) _ 
 pub list-answers : (q text places : List ℕ) → Answers roomTable (listingTold q text places .answer)
 unfolding listingTold
 list-answers q text places = room-answers roomTable (fits q text places) _ _ refl
+
+-- what a message is refused with has its number, and 0 says that it is not refused
+pub message-answers : (m spans places : List ℕ) → Answers messageForCTable (messageTold m spans places .answer)
+unfolding messageTold
+message-answers m spans places =
+    let c = readMessage m in
+    let told : Done ℕ (List ℕ × List ℕ) = ifRoom 0 noRoom (roomFor spans places) (over spans (spansOf c), over places (c .count ∷ [])) (spans, places) in
+    by-test (λ (t : Bool). AnswersBy messageForCTable (cond t told (doneBoth (codeOf (c .refusal)) spans places))) (eqb (c .refusal .number) 0)
+    (λ e. room-answers messageForCTable (roomFor spans places) _ _ refl)
+    (λ e. ⊎-elim (λ y. absurd (eqb-false _ 0 e (ap (λ (x : Refusal). x .number) (y .1)))) (λ n. inr (c .refusal, refl, wider messageForCTable messageTable (c .refusal) refl (n .1))) (message-refuses m))
 
 pub empty-answers : (s : List ℕ) → Answers roomTable (emptied s .answer)
 unfolding emptied

@@ -9,6 +9,7 @@ use mathlib.Core.List.{List, [], _∷_}
 use lib.Dec.{leb}
 use Rattle.layout.specs.declared.Refusal.{Refusal}
 use Rattle.layout.specs.Refusals.{Row, row, Listed}
+use Rattle.field.specs.Refused.{fieldTable}
 use Rattle.filing.specs.Refused.{filedRows}
 use Rattle.skogmund.specs.Entries.{codeOf}
 
@@ -23,6 +24,10 @@ octetSections (r ∷ rs) = leb (r .section) 255 && octetSections rs
 
 abbrev pub roomTable : List Row
 roomTable = row 0 (18 ∷ []) ∷ []
+
+-- 2 and 22 to 25 are the frame's, and then a field's
+abbrev pub messageForCTable : List Row
+messageForCTable = row 0 (2 ∷ 18 ∷ 22 ∷ 23 ∷ 24 ∷ 25 ∷ []) ∷ fieldTable
 
 abbrev pub slotTable : List Row
 slotTable = row 0 (16 ∷ 18 ∷ []) ∷ []

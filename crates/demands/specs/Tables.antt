@@ -10,10 +10,11 @@ use Rattle.grid.specs.Refused.{table₃}
 use Rattle.product.specs.Refused.{table₄}
 use Rattle.packing.specs.Refused.{table₅, table₇, unpackTable}
 use Rattle.field.specs.Refused.{fieldTable}
+use Rattle.message.specs.Refused.{messageTable}
 use Rattle.filing.specs.Refused.{filingTable}
 use Rattle.queue.specs.Refused.{recordTable, queueTable}
 use Rattle.values.specs.Refused.{readTable}
-use Rattle.demands.specs.NumbersForC.{roomTable, slotTable, fileTable, fileQueueTable}
+use Rattle.demands.specs.NumbersForC.{roomTable, messageForCTable, slotTable, fileTable, fileQueueTable}
 
 -- the first three go by the section that is asked for; the table of `fitting-told` has the number that a caller names, and is not among these
 abbrev pub tables : ℕ → List (List Row)
@@ -28,10 +29,12 @@ tables asked =
     ∷ table₇
     ∷ unpackTable
     ∷ fieldTable
+    ∷ messageTable
     ∷ filingTable
     ∷ recordTable
     ∷ queueTable
     ∷ roomTable
+    ∷ messageForCTable
     ∷ slotTable
     ∷ fileTable
     ∷ fileQueueTable

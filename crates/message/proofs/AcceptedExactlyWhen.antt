@@ -9,21 +9,18 @@ use lib.ListN.{length, take, replicate}
 use lib.Seq.{take-append-seam}
 use Rattle.layout.specs.declared.Span.{Span}
 use Rattle.field.specs.Field.{FieldOutcome, refusedField, readField}
-use Rattle.field.specs.Accepted.{FollowsField, AcceptedField}
+use Rattle.field.specs.Accepted.{AcceptedField}
 use Rattle.field.proofs.AcceptedExactlyWhen.{accepted-exactly-when as field-exactly-when}
 use Rattle.message.specs.declared.Sections.{Sections}
 use Rattle.message.specs.declared.Cut.{Cut}
 use Rattle.message.specs.Walk.{noSections}
-use Rattle.message.specs.Grammar.{Group, FirstComplete, Five, AllFollow, fieldsIn, Parts, IsFrame, FollowsMessage}
+use Rattle.message.specs.Grammar.{Group, FirstComplete, Five, Follows, AllFollow, fieldsIn, Parts, IsFrame, FollowsMessage}
 use Rattle.message.specs.Messages.{shownIn, outcomeOf, orRefused, foundIn, fieldsRead, cutMessage, readMessage, Accepted}
 use Rattle.message.specs.Places.{placesOf, placesIn, padded, fieldsFound}
 use Rattle.message.proofs.Frames.{frame-of, frame-found}
 use Rattle.message.proofs.Shown.{frame-shown}
 
 -- ---- a field
-
-abbrev Follows : Five → Type 0
-Follows x = FollowsField (x .one) (x .three) (x .four) (x .five) (x .seven)
 
 both : (o : FieldOutcome) (c : Cut) → Accepted (orRefused o c) → AcceptedField o × Accepted c
 unfolding orRefused

@@ -1,19 +1,19 @@
 -- What a caller is shown: of an accepted message the k-th field's sections, and of anything else no octets.
 -- Assumes nothing.
-use Prim.Native.Nat.{ℕ, _-_, _≤_}
+use Prim.Native.Nat.{ℕ, zero, suc, _-_, _≤_, _<_}
 use native.Mathlib.Omega.{arith}
 use mathlib.Core.Path.{_≡_, refl, ap, sym, subst, _∙_}
 use mathlib.Core.Bool.{Bool, true, false, cond}
-use mathlib.Core.List.{List, [], _++_}
+use mathlib.Core.List.{List, [], _∷_, _++_}
 use lib.Dec.{ltb, eqb}
-use lib.ListN.{length, getD, replicate, List·getD-map, List·getD-append, List·getD-eq-default}
+use lib.ListN.{length, length-map, getD, replicate, List·getD-map, List·getD-append, List·getD-eq-default}
 use borrow.Author.Tests.{ltb-true, ltb-false, le-ltb}
 use Rattle.layout.specs.Spans.{nowhere, octetsIn}
 use Rattle.layout.proofs.Refusals.{by-test}
 use Rattle.message.specs.declared.Sections.{Sections}
 use Rattle.message.specs.declared.Cut.{Cut}
 use Rattle.message.specs.Walk.{noSections}
-use Rattle.message.specs.Grammar.{Five, fieldsIn, FollowsMessage}
+use Rattle.message.specs.Grammar.{Five, noFive, Follows, AllFollow, fieldsIn, FollowsMessage}
 use Rattle.message.specs.Messages.{shownIn, spanOf, fieldOf, sectionIn, numbered, sectionNumbered, readMessage}
 use Rattle.message.specs.Places.{placesIn, padded, fieldsFound, FieldWithin}
 use Rattle.message.proofs.Shown.{frame-shown, nowhere-within, frame-within}
@@ -36,9 +36,6 @@ unfolding numbered
 by-number m f n = by-tests m f (eqb n 1) (eqb n 3) (eqb n 4) (eqb n 5) (eqb n 7)
 
 -- ---- the k-th field
-
-abbrev noFive : Five
-noFive = record { one = []; three = []; four = []; five = []; seven = [] }
 
 found-at : (fs : List Sections) (k : ℕ) → fieldOf (fieldsFound fs) k ≡ getD fs k noSections
 unfolding padded
@@ -78,6 +75,23 @@ none-past m c k n h =
     by-number m (fieldOf c k) n
     ∙ ap (λ (t : Bool). sectionNumbered (shownIn m (cond t (getD (c .fields) k noSections) noSections)) n) (le-ltb k (c .count) h)
     ∙ all-none n
+
+-- ---- each field that is shown follows
+
+follows-at : (fs : List Five) (k : ℕ) → AllFollow fs → k < length fs → Follows (getD fs k noFive)
+unfolding AllFollow
+follows-at [] k a h = absurd (omega arith)
+follows-at (f ∷ fs) zero a h = a .0
+follows-at (f ∷ fs) (suc k) a h = follows-at fs k (a .1) (omega arith)
+
+pub field-follows : (m : List ℕ) (k : ℕ) → k < readMessage m .count → Follows (shownIn m (fieldOf (readMessage m) k))
+field-follows m k h =
+    let x = accepted-exactly-when m .0 (omega arith) in
+    let long : length (fieldsIn (x .parts)) ≡ readMessage m .count =
+    sym (ap length (frame-shown m (x .parts) (x .frame)))
+    ∙ length-map (placesIn (x .parts)) (shownIn m)
+    ∙ sym (ap (λ (c : Cut). c .count) (answer m x)) in
+    subst Follows (sym (field-shown m x k)) (follows-at (fieldsIn (x .parts)) k (x .fields) (omega (arith, long)))
 
 -- ---- where they stand, the message has all of their octets
 

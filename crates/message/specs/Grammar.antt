@@ -88,6 +88,10 @@ pub record Five : Type 0 where
   pub five : List ℕ
   pub seven : List ℕ
 
+-- what stands for a field that is not there
+abbrev pub noFive : Five
+noFive = record { one = []; three = []; four = []; five = []; seven = [] }
+
 abbrev pub fieldWith : List ℕ → List ℕ → Group → Five
 fieldWith one three g = record { one = one; three = three; four = g .four; five = g .five; seven = g .seven }
 
@@ -96,9 +100,12 @@ unfoldable pub fieldsOf : List ℕ → List ℕ → List Group → List Five
 fieldsOf one three [] = []
 fieldsOf one three (g ∷ gs) = fieldWith one (threeAfter three (g .opening)) g ∷ fieldsOf one (threeAfter three (g .opening)) gs
 
+abbrev pub Follows : Five → Type 0
+Follows f = FollowsField (f .one) (f .three) (f .four) (f .five) (f .seven)
+
 unfoldable pub AllFollow : List Five → Type 0
 AllFollow [] = Unit {0}
-AllFollow (f ∷ fs) = FollowsField (f .one) (f .three) (f .four) (f .five) (f .seven) × AllFollow fs
+AllFollow (f ∷ fs) = Follows f × AllFollow fs
 
 -- ---- a message
 
