@@ -3,11 +3,10 @@
 use mathlib.Core.Path.{_≡_, refl}
 use mathlib.Core.Bool.{Bool, true, false, cond}
 use mathlib.Core.List.{List, [], _∷_}
-use Prim.Native.Nat.{ℕ, zero, suc, _+_, _*_, _-_, _^_, _≤_, _<_}
+use Prim.Native.Nat.{ℕ, _+_, _*_, _-_, _^_, _≤_, _<_}
 use native.Mathlib.Omega.{arith}
 use lib.Dec.{eqb}
 use lib.ListN.{length, drop, length-append, length-drop}
-use Rattle.lent.specs.Rows.{inTurn}
 use Rattle.layout.specs.declared.Refusal.{Refusal}
 use Rattle.card.specs.declared.Card.{Card}
 use Rattle.cutting.specs.Cuts.{cutOf}
@@ -31,8 +30,9 @@ use Rattle.queue.proofs.Cuts.{stands, by-records}
 use Rattle.queue.proofs.FiledQueues.{files}
 use Rattle.lent.specs.Written.{written, append, startsWith}
 use Rattle.lent.proofs.Written.{append-whole}
-use Rattle.text.proofs.Decimal.{decimal-short, decimal-most, whole-number-most}
-use Rattle.report.specs.Texts.{countsLine, refusedLine, cardTemplate, timeText, cardLine, slotLine, filedListing, listingOf, issueText, fate, recordLine, recordLines, filedExplanation, explanationOf, listing, explanation}
+use Rattle.text.proofs.Decimal.{decimal-short, decimal-most}
+use Rattle.text.proofs.Lengths.{time-most, refused-most, in-turn-most}
+use Rattle.report.specs.Texts.{countsLine, refusedLine, cardTemplate, cardLine, slotLine, slotLines, filedListing, listingOf, issueText, fate, recordLine, recordLines, filedExplanation, explanationOf, listing, explanation}
 
 -- ---- the lines that both have
 
@@ -47,10 +47,10 @@ refused-line x = simp length-append (omega (arith, decimal-most (x .number)))
 -- ---- the listing
 
 card-line : (slot : ℕ) (c : Card) → length (cardLine slot c) ≤ 190
-unfolding cardLine timeText
+unfolding cardLine
 card-line slot c =
     simp length-append
-    (omega (arith, decimal-most slot, whole-number-most (c .year), decimal-most (c .month), decimal-most (c .day), decimal-most (c .hour), decimal-most (c .minute), decimal-most (c .second), decimal-most (c .issue), decimal-most (cardTemplate c)))
+    (omega (arith, decimal-most slot, time-most (c .year) (c .month) (c .day) (c .hour) (c .minute) (c .second), decimal-most (c .issue), decimal-most (cardTemplate c)))
 
 slot-line : (slot : ℕ) (x : Slot) → length (slotLine slot x) ≤ 190
 unfolding slotLine
@@ -60,14 +60,12 @@ slot-line slot x = by-held (x .held)
     by-held true = card-line slot (x .card)
     by-held false = omega arith
 
-slot-lines : (s : Shelf) (slot more : ℕ) → length (inTurn (λ (n : ℕ). slotLine n (slotAt s n)) slot more) ≤ 190 * more
-unfolding inTurn
-slot-lines s slot zero = omega arith
-slot-lines s slot (suc more) = simp length-append (omega (arith, slot-line slot (slotAt s slot), slot-lines s (suc slot) more))
+slot-lines : (s : Shelf) → length (slotLines s) ≤ 12160
+slot-lines s = in-turn-most 190 (λ (n : ℕ). slotLine n (slotAt s n)) (λ n. slot-line n (slotAt s n)) 0 64
 
 listing-of : (s : Shelf) (a : QueueAnswer) → length (listingOf s a) ≤ 16384
 unfolding listingOf filedListing
-listing-of s (filedAll n) = simp length-append (omega (arith, slot-lines s 0 64, counts-line n))
+listing-of s (filedAll n) = simp length-append (omega (arith, slot-lines s, counts-line n))
 listing-of s (refusedAll x) = omega (arith, refused-line x)
 
 pub listing-fits : (q : List ℕ) → length (listing q) ≤ 16384
@@ -86,7 +84,7 @@ issue-text stored h = by-named (eqb stored 0)
 fate-text : (a : Answer) → length (fate a) ≤ 72
 fate-text Kept = omega arith
 fate-text Passed = omega arith
-fate-text (Refused x) = simp length-append (omega (arith, decimal-most (x .number), decimal-most (x .section), decimal-most (x .place)))
+fate-text (Refused x) = omega (arith, refused-most x)
 
 record-line : (k slot : ℕ) (issue : Issue) (a : Answer) → k < 10 ^ 5 → slot ≤ 4294967296 → length (issueText issue) ≤ 10 → length (recordLine k slot issue a) ≤ 99
 unfolding recordLine

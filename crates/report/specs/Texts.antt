@@ -20,14 +20,8 @@ use Rattle.queue.specs.Queues.{Sent, recordFiled, recordStep, queueFiled}
 use Rattle.queue.specs.declared.Counts.{Counts}
 use Rattle.queue.specs.declared.QueueAnswer.{QueueAnswer}
 use Rattle.queue.specs.declared.QueueAnswer.the-variants.{Filed as filedAll, Refused as refusedAll}
-use Rattle.text.specs.Text.{ascii, decimal, wholeNumber}
-
--- a number with a space behind it, and one with a line end
-abbrev pub spaced : ℕ → List ℕ
-spaced n = decimal n ++ ascii " "
-
-abbrev pub ended : ℕ → List ℕ
-ended n = decimal n ++ ascii "\n"
+use Rattle.text.specs.Text.{ascii, decimal, timeText, refusedText}
+pub use Rattle.text.specs.Text.{spaced, ended}
 
 -- ---- the lines that both have
 
@@ -45,12 +39,10 @@ refusedLine x = ascii "refused " ++ ended (x .number)
 abbrev pub cardTemplate : Card → ℕ
 cardTemplate c = beAt (c .product) 1 2
 
-unfoldable pub timeText : Card → List ℕ
-timeText c = spaced (c .month) ++ (spaced (c .day) ++ (spaced (c .hour) ++ (spaced (c .minute) ++ spaced (c .second))))
-
 unfoldable pub cardLine : ℕ → Card → List ℕ
 cardLine slot c =
-    spaced slot ++ (wholeNumber (c .year) ++ (ascii " " ++ (timeText c ++ (spaced (c .issue) ++ ended (cardTemplate c)))))
+    spaced slot
+    ++ (timeText (c .year) (c .month) (c .day) (c .hour) (c .minute) (c .second) ++ (spaced (c .issue) ++ ended (cardTemplate c)))
 
 -- one line for a held slot
 unfoldable pub slotLine : ℕ → Slot → List ℕ
@@ -75,7 +67,7 @@ issueText NotNamed = ascii "-"
 issueText (Named n) = decimal n
 
 abbrev pub refusedFate : Refusal → List ℕ
-refusedFate x = ascii " refused " ++ (spaced (x .number) ++ (spaced (x .section) ++ ended (x .place)))
+refusedFate x = ascii " " ++ refusedText x
 
 abbrev pub fate : Answer → List ℕ
 fate Kept = ascii " kept\n"

@@ -7,7 +7,7 @@ ghost use Rattle.cutting.specs.Cuts.{cutOf};
 ghost use Rattle.queue.specs.Queues.{recordStep};
 ghost use Rattle.shelf.specs.Shelves.{emptyShelf};
 ghost use Rattle.lent.specs.Written.{written, append, startsWith};
-ghost use Rattle.report.specs.Texts.{countsLine, refusedLine, timeText, cardLine, slotLine, slotLines, filedListing, listingOf, issueText, refusedFate, fate, recordLine, recordLines, filedExplanation, explanationOf, listing, explanation};
+ghost use Rattle.report.specs.Texts.{countsLine, refusedLine, cardLine, slotLine, slotLines, filedListing, listingOf, issueText, refusedFate, fate, recordLine, recordLines, filedExplanation, explanationOf, listing, explanation};
 use card::Card;
 use filing::Answer;
 use filing::Issue;
@@ -104,27 +104,24 @@ fn card_line(out: &mut [u8], at: usize, i: usize, card: Card) -> usize
     let product = card.product;
     let template = template_in(product);
     let a = text::number_then(out, at, i as u64, b' ');
-    let b = text::signed(out, a, card.year);
-    let c = lent::octet(out, b, b' ');
-    let d = time_text(out, c, card);
-    let e = text::number_then(out, d, card.issue as u64, b' ');
-    text::number_then(out, e, template as u64, b'\n')
+    let b = text::time(
+        out,
+        a,
+        card.year,
+        card.month,
+        card.day,
+        card.hour,
+        card.minute,
+        card.second,
+    );
+    let c = text::number_then(out, b, card.issue as u64, b' ');
+    text::number_then(out, c, template as u64, b'\n')
 }
 
 fn template_in(product: [u8; 27]) -> u16
     ensures { λ r. ⌜ r ≡ beAt product 1 2 ⌝ }
 {
     octets::u16_at(&product, 1)
-}
-
-fn time_text(out: &mut [u8], at: usize, card: Card) -> usize
-    ensures { λ r. ⌜ written (now (out .exit)) r ≡ append (written (now (out .entry)) at) (timeText card) ⌝ }
-{
-    let a = text::number_then(out, at, card.month as u64, b' ');
-    let b = text::number_then(out, a, card.day as u64, b' ');
-    let c = text::number_then(out, b, card.hour as u64, b' ');
-    let d = text::number_then(out, c, card.minute as u64, b' ');
-    text::number_then(out, d, card.second as u64, b' ')
 }
 
 fn counts_line(out: &mut [u8], at: usize, counts: Counts) -> usize
@@ -232,8 +229,6 @@ fn fate(out: &mut [u8], at: usize, answer: Answer) -> usize
 fn refused_fate(out: &mut [u8], at: usize, x: Refusal) -> usize
     ensures { λ r. ⌜ written (now (out .exit)) r ≡ append (written (now (out .entry)) at) (refusedFate x) ⌝ }
 {
-    let a = lent::octets(out, at, b" refused ");
-    let b = text::number_then(out, a, x.number as u64, b' ');
-    let c = text::number_then(out, b, x.section as u64, b' ');
-    text::number_then(out, c, x.place as u64, b'\n')
+    let a = lent::octet(out, at, b' ');
+    text::refused(out, a, x)
 }

@@ -4,7 +4,7 @@ use mathlib.Core.Path.{_≡_}
 use mathlib.Core.List.{[], _∷_, _++_}
 use denote.Ref.{now}
 use Rattle.lent.specs.Written.{written, append}
-use Rattle.text.specs.Text.{decimal, wholeNumber}
+use Rattle.text.specs.Text.{decimal, wholeNumber, timeText, refusedText}
 use Rattle.entry.specs.Entry.{Entry}
 use Rattle.text.proofs as code
 
@@ -16,3 +16,9 @@ number-then = record { takes = λ lent given. tt; ends = code.number_then.Met.me
 
 pub signed : Entry code.signed.Reads.Asked code.signed.Reads.Learnt code.signed.Statement.statement (λ given r later. written (now (later .0)) r ≡ append (written (now (given .0)) (given .1 .0)) (wholeNumber (given .1 .1 .0)))
 signed = record { takes = λ lent given. tt; ends = code.signed.Met.met; tells = λ lent given r later e. e }
+
+pub time : Entry code.time.Reads.Asked code.time.Reads.Learnt code.time.Statement.statement (λ given r later. written (now (later .0)) r ≡ append (written (now (given .0)) (given .1 .0)) (timeText (given .1 .1 .0) (given .1 .1 .1 .0) (given .1 .1 .1 .1 .0) (given .1 .1 .1 .1 .1 .0) (given .1 .1 .1 .1 .1 .1 .0) (given .1 .1 .1 .1 .1 .1 .1 .0)))
+time = record { takes = λ lent given. tt; ends = code.time.Met.met; tells = λ lent given r later e. e }
+
+pub refused : Entry code.refused.Reads.Asked code.refused.Reads.Learnt code.refused.Statement.statement (λ given r later. written (now (later .0)) r ≡ append (written (now (given .0)) (given .1 .0)) (refusedText (given .1 .1 .0)))
+refused = record { takes = λ lent given. tt; ends = code.refused.Met.met; tells = λ lent given r later e. e }

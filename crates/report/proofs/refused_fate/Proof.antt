@@ -1,4 +1,4 @@
--- `refused_fate`: the word and three numbers.
+-- `refused_fate`: a space and the refusal.
 -- Assumes nothing.
 use borrow.Author.Needs.{needs}
 use Rattle.lent.proofs.Written.{and-then}
@@ -7,25 +7,9 @@ use Rattle.report.proofs.refused_fate.Tie as tie
 
 returns : tie.Need-returns
 returns c =
-    let p4 = c .before .before in
-    let p3 = p4 .before .before .before .before in
-    let p2 = p3 .before .before .before .before .before in
-    let p1 = p2 .before .before .before .before .before in
-    and-then _ _ _ (p1 .octets .ensures)
-    (and-then _ _ _ (p2 .number-then .ensures)
-    (and-then _ _ _ (p3 .number-then2 .ensures)
-    (p4 .number-then3 .ensures)))
+    let p2 = c .before .before in
+    let p1 = p2 .before .before .before .before in
+    and-then _ _ _ (p1 .octet .ensures) (p2 .refused .ensures)
 
 pub refused-fate-spec : {M : Type 1} → statement M
-refused-fate-spec =
-    tie.close
-    (tie.spec
-    (λ c. search needs)
-    (λ c κs. search needs)
-    (λ c. search needs)
-    (λ c κs. search needs)
-    (λ c. search needs)
-    (λ c κs. search needs)
-    (λ c κs. search needs)
-    (λ c. search needs)
-    returns)
+refused-fate-spec = tie.close (tie.spec (λ c κs. search needs) (λ c κs. search needs) (λ c. search needs) returns)
