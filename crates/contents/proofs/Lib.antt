@@ -1,0 +1,4 @@
+pub mod Standing
+pub mod Room
+pub mod Lines
+pub mod Entries
