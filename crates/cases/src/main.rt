@@ -3,13 +3,15 @@
 // section to lend it, and its octets in hexadecimal, of which the last stands for the rest; printed are the row of its values and the
 // parts (`sections`). For unpacking it is `7 LENGTH OCTETS / LENGTH OCTETS / PLACES`: section 5, section 7, and the places of the row,
 // each of which holds 9 before (`unpacking`). A line that starts with `#` is printed as it is. Lines that start with a letter file fields
-// and join shelves (`shelves`), but for `q LENGTH OCTETS`: a queue, of which the listing and the explanation are printed (`queues`).
+// and join shelves (`shelves`), but for `q LENGTH OCTETS`: a queue, of which the listing and the explanation are printed (`queues`), and
+// `m LENGTH OCTETS`: a message, whose contents are printed (`messages`).
 ghost use mathlib.Core.Path.{_≡_};
 ghost use lib.ListN.{length};
 use shelf::Shelf;
 use shelves::Shelves;
 
 mod lines;
+mod messages;
 mod print;
 mod queues;
 mod sections;
@@ -48,6 +50,10 @@ fn run_line(line: &[u8], shelves: Shelves) -> Shelves {
     }
     if order == b'q' {
         queues::show(line);
+        return shelves;
+    }
+    if order == b'm' {
+        messages::show(line);
         return shelves;
     }
     if b'a' <= order {
