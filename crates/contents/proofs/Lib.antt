@@ -1,4 +1,5 @@
 pub mod Standing
 pub mod Room
 pub mod Lines
+pub mod Refused
 pub mod Entries

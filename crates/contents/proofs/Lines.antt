@@ -83,9 +83,9 @@ section-1-follows m x = first (x .parts .groups) (x .frame .first) (x .fields)
 
 -- ---- the message
 
-pub told : (m : List ℕ) (x : FollowsMessage m) → (template : Template) × Follows₁ template (x .parts .one) × (contents m ≡ contentsAt template (x .parts))
+pub accepted-told : (m : List ℕ) (x : FollowsMessage m) → (template : Template) × Follows₁ template (x .parts .one) × (contents m ≡ contentsAt template (x .parts))
 unfolding contents contentsOf acceptedText
-told m x =
+accepted-told m x =
     let p = x .parts in
     let f = section-1-follows m x in
     let c = readMessage m in

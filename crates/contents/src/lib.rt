@@ -48,6 +48,8 @@ pub fn contents(message: &[u8], out: &mut [u8]) -> usize
     accepted(out, message, cut)
 }
 
+// An accepted message: the heading, its fields, and how many they are. It is asked that the sections stand where those of a message do, so that
+// the number of a first octet can't wrap; every message keeps that (`early`, proofs/Standing.antt).
 fn accepted(out: &mut [u8], message: &[u8], cut: Cut) -> usize
     requires { ⌜ ((k : ℕ) → Early (fieldOf cut k)) ⌝ }
     ensures { λ r. ⌜ written (now (out .exit)) r ≡ append (written (now (out .entry)) 0) (acceptedText (now (message .entry)) cut) ⌝ }
@@ -75,6 +77,7 @@ fn field_lines(out: &mut [u8], at: usize, message: &[u8], cut: Cut) -> usize
     next
 }
 
+// The sections are parts of the message, and nothing is copied.
 fn field_line(out: &mut [u8], at: usize, number: u64, message: &[u8], sections: Sections) -> usize
     requires { ⌜ Early sections ⌝ }
     ensures { λ r. ⌜ written (now (out .exit)) r ≡ append (written (now (out .entry)) at) (fieldLine number (shownIn (now (message .entry)) sections) sections) ⌝ }
@@ -89,6 +92,7 @@ fn field_line(out: &mut [u8], at: usize, number: u64, message: &[u8], sections: 
     places_text(out, c, sections)
 }
 
+// A section 1 that is refused has no time; an accepted message has none such.
 fn time_text(out: &mut [u8], at: usize, section1: &[u8]) -> usize
     ensures { λ r. ⌜ written (now (out .exit)) r ≡ append (written (now (out .entry)) at) (timeRead (outcome₁ (now (section1 .entry)))) ⌝ }
 {
