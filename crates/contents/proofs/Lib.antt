@@ -1,4 +1,3 @@
-pub mod Standing
 pub mod Room
 pub mod Lines
 pub mod Refused

@@ -1,7 +1,7 @@
 -- What is printed of an accepted message, by the octets of its parts: each field that its groups leave in force has its line, with the real
 -- year and the time that section 1's own octets say by the template that it follows.
 -- Assumes nothing.
-use Prim.Native.Nat.{ℕ, suc, _+_, _<_}
+use Prim.Native.Nat.{ℕ, suc, _+_}
 use native.Mathlib.Nat.{add-zero, zero-add}
 use native.Mathlib.Numerals.{add-one}
 use native.Mathlib.Omega.{arith}
@@ -27,9 +27,9 @@ use Rattle.message.specs.Messages.{shownIn, fieldOf, readMessage}
 use Rattle.message.specs.Places.{placesIn}
 use Rattle.message.proofs.AcceptedExactlyWhen.{answer, count-is}
 use Rattle.message.proofs.Shown.{frame-shown}
+use Rattle.message.proofs.Views.{stands-at}
 use Rattle.text.specs.Text.{ascii, ended}
 use Rattle.contents.specs.Contents.{timeRead, fieldLine, lineOf, heading, acceptedText, contentsOf, contents, timeAt, lineAt, linesAt, contentsAt}
-use Rattle.contents.proofs.Standing.{count-found, found}
 
 -- ---- the time
 
@@ -62,14 +62,14 @@ line-timed : (template : Template) (number : ℕ) (x : Five) (f : Sections) → 
 unfolding fieldLine
 line-timed template number x f t = rw t refl
 
-lines : (template : Template) (m : List ℕ) (c : Cut) (i : ℕ) (fs : List Sections) → ((j : ℕ) → j < length fs → fieldOf c (i + j) ≡ getD fs j noSections) → AllTimed template (map (shownIn m) fs)
+lines : (template : Template) (m : List ℕ) (c : Cut) (i : ℕ) (fs : List Sections) → ((j : ℕ) → fieldOf c (i + j) ≡ getD fs j noSections) → AllTimed template (map (shownIn m) fs)
     → inTurn (lineOf m c) i (length fs) ≡ linesAt template i (map (shownIn m) fs) fs
 unfolding inTurn linesAt AllTimed
 lines template m c i [] same t = refl
 lines template m c i (f ∷ fs) same t =
-    let here : fieldOf c i ≡ f = ap (fieldOf c) (sym (add-zero i)) ∙ same 0 (omega arith) in
+    let here : fieldOf c i ≡ f = ap (fieldOf c) (sym (add-zero i)) ∙ same 0 in
     let line = ap (λ (x : Sections). fieldLine (i + 1) (shownIn m x) x) here ∙ line-timed template (i + 1) (shownIn m f) f (t .0) in
-    let next = lines template m c (suc i) fs (λ j h. ap (fieldOf c) (omega arith) ∙ same (suc j) (omega arith)) (t .1) in
+    let next = lines template m c (suc i) fs (λ j. ap (fieldOf c) (omega arith) ∙ same (suc j)) (t .1) in
     (λ k. line k ++ next k)
     ∙ ap (λ (n : ℕ). lineAt template (i + 1) (shownIn m f) f ++ linesAt template n (map (shownIn m) fs) fs) (sym (add-one i))
 
@@ -92,5 +92,5 @@ accepted-told m x =
     let shown = frame-shown m p (x .frame) in
     let times = subst (AllTimed (f .0)) (sym shown) (all-timed (f .0) (p .one) [] (p .groups) (timed (f .0) (p .one) (f .1))) in
     let accepted : eqb (c .refusal .number) 0 ≡ true = ap (λ (y : Cut). eqb (y .refusal .number) 0) (answer m x) in
-    let all = ap (inTurn (lineOf m c) 0) (count-found m x) ∙ lines (f .0) m c 0 (placesIn p) (λ j h. ap (fieldOf c) (zero-add j) ∙ found m x j h) times ∙ ap (λ (xs : List Five). linesAt (f .0) 0 xs (placesIn p)) shown in
+    let all = ap (inTurn (lineOf m c) 0) (ap (λ (y : Cut). y .count) (answer m x)) ∙ lines (f .0) m c 0 (placesIn p) (λ j. ap (fieldOf c) (zero-add j) ∙ stands-at m x j) times ∙ ap (λ (xs : List Five). linesAt (f .0) 0 xs (placesIn p)) shown in
     (f .0, f .1, rw accepted (λ i. heading ++ (all i ++ (ascii "fields " ++ ended (count-is m x i)))))

@@ -7,9 +7,9 @@ ghost use lib.ListN.{length, replicate};
 ghost use Rattle.lent.specs.Written.{written, append, startsWith};
 ghost use Rattle.identification.specs.Section1.{outcome₁};
 ghost use Rattle.message.specs.Messages.{shownIn, fieldOf};
+ghost use Rattle.message.specs.Places.{LowField};
 ghost use Rattle.text.specs.Text.{decimal, spaced};
 ghost use Rattle.contents.specs.Contents.{timeRead, numbersText, placesText, fieldLine, fieldLines, acceptedText, contents};
-ghost use Rattle.contents.specs.Early.{Early};
 use identification::Answer;
 use layout::Span;
 use message::Cut;
@@ -49,9 +49,9 @@ pub fn contents(message: &[u8], out: &mut [u8]) -> usize
 }
 
 // An accepted message: the heading, its fields, and how many they are. It is asked that the sections stand where those of a message do, so that
-// the number of a first octet can't wrap; every message keeps that (`early`, proofs/Standing.antt).
+// the number of a first octet can't wrap; every message keeps that (`field-low`, message/proofs/Views.antt).
 fn accepted(out: &mut [u8], message: &[u8], cut: Cut) -> usize
-    requires { ⌜ ((k : ℕ) → Early (fieldOf cut k)) ⌝ }
+    requires { ⌜ ((k : ℕ) → LowField (fieldOf cut k)) ⌝ }
     ensures { λ r. ⌜ written (now (out .exit)) r ≡ append (written (now (out .entry)) 0) (acceptedText (now (message .entry)) cut) ⌝ }
 {
     let heading = lent::octets(
@@ -65,7 +65,7 @@ fn accepted(out: &mut [u8], message: &[u8], cut: Cut) -> usize
 }
 
 fn field_lines(out: &mut [u8], at: usize, message: &[u8], cut: Cut) -> usize
-    requires { ⌜ ((k : ℕ) → Early (fieldOf cut k)) ⌝ }
+    requires { ⌜ ((k : ℕ) → LowField (fieldOf cut k)) ⌝ }
     ensures { λ r. ⌜ written (now (out .exit)) r ≡ append (written (now (out .entry)) at) (fieldLines (now (message .entry)) cut) ⌝ }
 {
     let mut next = at;
@@ -79,7 +79,7 @@ fn field_lines(out: &mut [u8], at: usize, message: &[u8], cut: Cut) -> usize
 
 // The sections are parts of the message, and nothing is copied.
 fn field_line(out: &mut [u8], at: usize, number: u64, message: &[u8], sections: Sections) -> usize
-    requires { ⌜ Early sections ⌝ }
+    requires { ⌜ LowField sections ⌝ }
     ensures { λ r. ⌜ written (now (out .exit)) r ≡ append (written (now (out .entry)) at) (fieldLine number (shownIn (now (message .entry)) sections) sections) ⌝ }
 {
     let section1 = octets::part_after(message, sections.one.before, sections.one.length);
@@ -132,7 +132,7 @@ fn numbers_text(
 }
 
 fn places_text(out: &mut [u8], at: usize, sections: Sections) -> usize
-    requires { ⌜ Early sections ⌝ }
+    requires { ⌜ LowField sections ⌝ }
     ensures { λ r. ⌜ written (now (out .exit)) r ≡ append (written (now (out .entry)) at) (placesText sections) ⌝ }
 {
     let a = place_then(out, at, sections.one, b' ');
@@ -144,7 +144,7 @@ fn places_text(out: &mut [u8], at: usize, sections: Sections) -> usize
 
 // The first octet of a section, from 1, its length, and the octet behind them.
 fn place_then(out: &mut [u8], at: usize, place: Span, end: u8) -> usize
-    requires { ⌜ place .before + 1 < 2 ^ 64 ⌝ }
+    requires { ⌜ place .before < 2 ^ 63 ⌝ }
     ensures { λ r. ⌜ written (now (out .exit)) r ≡ append (written (now (out .entry)) at) (spaced (place .before + 1) ++ (decimal (place .length) ++ (end ∷ []))) ⌝ }
 {
     let a = text::number_then(out, at, place.before as u64 + 1, b' ');

@@ -21,6 +21,7 @@ pub use Rattle.filing.proofs.Entries as filing-entries
 pub use Rattle.queue.proofs.Entries as queue-entries
 pub use Rattle.text.proofs.Entries as text-entries
 pub use Rattle.report.proofs.Entries as report-entries
+pub use Rattle.contents.proofs.Entries as contents-entries
 pub use Rattle.values.proofs.Entries as values-entries
 pub use Rattle.standard.proofs.Entries as standard-entries
 pub use Rattle.skogmund.proofs.Entries as skogmund-entries

@@ -19,6 +19,9 @@ pub use Rattle.message.proofs.FirstPlace.{no-section, out-of-order, another-six
 pub use Rattle.message.proofs.FrameAndFields.{frame-first, frame-and-fields, first-field-refused}
 -- what C is told: exactly when, which numbers, and by field
 pub use Rattle.skogmund.proofs.Answered.{message-exactly-when, message-left, message-spans}
+-- and what dispatch is printed: of an accepted message its fields by their octets, in their order; of any other its refusal, and nothing else
+pub use Rattle.contents.proofs.Lines.{accepted-told}
+pub use Rattle.contents.proofs.Refused.{refused-told}
 -- The rest are the theorems of this file.
 use Prim.Native.Nat.{ℕ, _≤_, _<_}
 use mathlib.Core.Path.{_≡_, refl, sym, ap, subst, _∙_}

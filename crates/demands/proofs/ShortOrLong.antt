@@ -63,8 +63,8 @@ use Rattle.filing.specs.declared.Answer.the-variants.{Refused}
 use Rattle.queue.specs.Queues.{Sent, recordFiling, recordFiled}
 use Rattle.queue.specs.Spelled.{FiveSections}
 use Rattle.queue.proofs.FiveSections.{five-filed}
-use Rattle.text.specs.Text.{ascii}
-use Rattle.report.specs.Texts.{spaced, ended, issueText, recordLine}
+use Rattle.text.specs.Text.{ascii, spaced, ended}
+use Rattle.report.specs.Texts.{issueText, recordLine}
 use Rattle.values.specs.Records.{sectionOutcome, intoRow}
 use Rattle.shelf_octets.specs.ShelfOctets.{shelfIn}
 use Rattle.skogmund.specs.Entries.{code, rowUnpacked, recordTold}

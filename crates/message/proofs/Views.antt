@@ -1,6 +1,6 @@
 -- What a caller is shown: of an accepted message the k-th field's sections, and of anything else no octets.
 -- Assumes nothing.
-use Prim.Native.Nat.{ℕ, zero, suc, _-_, _≤_, _<_}
+use Prim.Native.Nat.{ℕ, zero, suc, _-_, _^_, _≤_, _<_}
 use native.Mathlib.Omega.{arith}
 use mathlib.Core.Path.{_≡_, refl, ap, sym, subst, _∙_}
 use mathlib.Core.Bool.{Bool, true, false, cond}
@@ -15,7 +15,7 @@ use Rattle.message.specs.declared.Cut.{Cut}
 use Rattle.message.specs.Walk.{noSections}
 use Rattle.message.specs.Grammar.{Five, noFive, Follows, AllFollow, fieldsIn, FollowsMessage}
 use Rattle.message.specs.Messages.{shownIn, spanOf, fieldOf, sectionIn, numbered, sectionNumbered, readMessage}
-use Rattle.message.specs.Places.{placesIn, padded, fieldsFound, FieldWithin}
+use Rattle.message.specs.Places.{placesIn, padded, fieldsFound, FieldWithin, LowField}
 use Rattle.message.proofs.Shown.{frame-shown, nowhere-within, frame-within}
 use Rattle.message.proofs.AcceptedExactlyWhen.{answer, accepted-exactly-when}
 
@@ -45,12 +45,15 @@ found-at fs k = by-room (ltb k (length fs)) refl
     by-room true e = List·getD-append fs (replicate (16 - length fs) noSections) noSections k (ltb-true k (length fs) e)
     by-room false e = sym (List·getD-eq-default fs noSections {n = k} (ltb-false k (length fs) e))
 
+-- The k-th field of an accepted message stands where its groups have it; past the last, nowhere.
+pub stands-at : (m : List ℕ) (x : FollowsMessage m) (k : ℕ) → fieldOf (readMessage m) k ≡ getD (placesIn (x .parts)) k noSections
+stands-at m x k = ap (λ (c : Cut). fieldOf c k) (answer m x) ∙ found-at (placesIn (x .parts)) k
+
 -- The k-th field that an accepted message's answer shows is the k-th that its groups leave in force; past the last, no octets.
 pub field-shown : (m : List ℕ) (x : FollowsMessage m) (k : ℕ) → shownIn m (fieldOf (readMessage m) k) ≡ getD (fieldsIn (x .parts)) k noFive
 field-shown m x k =
     let fs = placesIn (x .parts) in
-    ap (λ (c : Cut). shownIn m (fieldOf c k)) (answer m x)
-    ∙ ap (shownIn m) (found-at fs k)
+    ap (shownIn m) (stands-at m x k)
     ∙ sym (List·getD-map (shownIn m) fs k noSections)
     ∙ ap (λ (l : List Five). getD l k noFive) (frame-shown m (x .parts) (x .frame))
 
@@ -101,5 +104,16 @@ field-within m k = by-test (λ (t : Bool). FieldWithin (cond t (getD (readMessag
     found : ltb k (readMessage m .count) ≡ true → FieldWithin (getD (readMessage m .fields) k noSections) m
     found e =
         let x = accepted-exactly-when m .0 (omega (arith, ltb-true k (readMessage m .count) e)) in
-        let same : fieldOf (readMessage m) k ≡ getD (placesIn (x .parts)) k noSections = ap (λ (c : Cut). fieldOf c k) (answer m x) ∙ found-at (placesIn (x .parts)) k in
-        subst (λ (f : Sections). FieldWithin f m) (sym same ∙ rw e refl) (frame-within m (x .parts) (x .frame) k)
+        subst (λ (f : Sections). FieldWithin f m) (sym (stands-at m x k) ∙ rw e refl) (frame-within m (x .parts) (x .frame) k)
+
+-- so each place has a number, as no slice has more octets
+pub field-low : (m : List ℕ) → length m < 2 ^ 63 → (k : ℕ) → LowField (fieldOf (readMessage m) k)
+field-low m h k =
+    let w = field-within m k in
+    record {
+      one = omega (arith, w .one);
+      three = omega (arith, w .three);
+      four = omega (arith, w .four);
+      five = omega (arith, w .five);
+      seven = omega (arith, w .seven);
+    }

@@ -20,8 +20,7 @@ use Rattle.queue.specs.Queues.{Sent, recordFiled, recordStep, queueFiled}
 use Rattle.queue.specs.declared.Counts.{Counts}
 use Rattle.queue.specs.declared.QueueAnswer.{QueueAnswer}
 use Rattle.queue.specs.declared.QueueAnswer.the-variants.{Filed as filedAll, Refused as refusedAll}
-use Rattle.text.specs.Text.{ascii, decimal, timeText, refusedText}
-pub use Rattle.text.specs.Text.{spaced, ended}
+use Rattle.text.specs.Text.{ascii, decimal, spaced, ended, timeText, refusedText}
 
 -- ---- the lines that both have
 

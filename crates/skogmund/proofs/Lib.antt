@@ -4,4 +4,3 @@ pub mod RecordTold
 pub mod Answered
 pub mod Entries
 pub mod Spans
-pub mod MessagesWithin

@@ -1,6 +1,6 @@
 -- Where the sections of a message's fields stand, as C is told it.
 -- Assumes nothing.
-use Prim.Native.Nat.{ℕ, _^_, _≤_, _<_}
+use Prim.Native.Nat.{ℕ, _≤_}
 use mathlib.Core.Bool.{Bool, cond, _&&_}
 use mathlib.Core.List.{List, [], _∷_}
 use lib.Dec.{eqb, ltb, leb}
@@ -10,6 +10,7 @@ use Rattle.lent.specs.Rows.{inTurn}
 use Rattle.message.specs.declared.Sections.{Sections}
 use Rattle.message.specs.declared.Cut.{Cut}
 use Rattle.message.specs.Messages.{fieldOf, readMessage}
+use Rattle.message.specs.Places.{LowField}
 use Rattle.skogmund.specs.Entries.{codeOf, noRoom}
 use Rattle.skogmund.specs.Parts.{firstOctet}
 
@@ -44,15 +45,7 @@ messageTold m spans places =
     (ifRoom 0 noRoom (roomFor spans places) (over spans (spansOf c), over places (c .count ∷ [])) (spans, places))
     (doneBoth (codeOf (c .refusal)) spans places)
 
--- ---- for the code: no more fields than there are places for, and no place so high that the octet behind it has no number
-
-pub record LowField (f : Sections) : Type 0 where
-  pub one : f .one .before < 2 ^ 63
-  pub three : f .three .before < 2 ^ 63
-  pub four : f .four .before < 2 ^ 63
-  pub five : f .five .before < 2 ^ 63
-  pub seven : f .seven .before < 2 ^ 63
-
+-- for the code: no more fields than there are places for, and places that have a number
 pub record Tellable (c : Cut) : Type 0 where
   pub few : c .count ≤ 16
   pub low : (k : ℕ) → LowField (fieldOf c k)

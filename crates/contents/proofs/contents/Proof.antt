@@ -1,11 +1,12 @@
 -- `contents`: accepted or refused.
 -- Assumes nothing.
+use native.Mathlib.Omega.{arith}
 use borrow.Author.Needs.{needs}
 use borrow.Author.Tests.{eq-eqb, ne-eqb}
 use denote.Ref.{now}
 use Rattle.octets.proofs.Free.{free}
+use Rattle.message.proofs.Views.{field-low}
 use Rattle.contents.specs.Contents.{contentsOf, contents}
-use Rattle.contents.proofs.Standing.{early}
 use Rattle.contents.proofs.contents.Statement.{statement}
 use Rattle.contents.proofs.contents.Tie as tie
 
@@ -18,7 +19,7 @@ returns c =
 accepted-requires : tie.Need-accepted-requires
 accepted-requires c κs =
     let r = c .before .before .before .before in
-    rw (r .read .ensures) (early (now (r .before .before .before .args .message)))
+    rw (r .read .ensures) (field-low (now (r .before .before .before .args .message)) (omega arith))
 
 returns-2 : tie.Need-returns-2
 unfolding contents contentsOf

@@ -7,8 +7,8 @@ use denote.Ref.{now}
 use Rattle.octets.proofs.Free.{free}
 use Rattle.lent.specs.Written.{written}
 use Rattle.lent.proofs.Written.{Turns, first-turn, next-turn, last-turn}
+use Rattle.message.specs.Places.{LowField}
 use Rattle.contents.specs.Contents.{lineOf}
-use Rattle.contents.specs.Early.{Early}
 use Rattle.contents.proofs.field_lines.Statement.{statement}
 use Rattle.contents.proofs.field_lines.Tie as tie
 
@@ -21,7 +21,7 @@ abbrev μ-loop : tie.MeasureT-loop
 field-line-requires : tie.Need-field-line-requires Inv-loop μ-loop
 field-line-requires c κs =
     let l = c .before .before .before .before in
-    subst Early (sym (c .field-of .ensures)) (l .before .before .before .pre (l .loop .k))
+    subst LowField (sym (c .field-of .ensures)) (l .before .before .before .pre (l .loop .k))
 
 loop-again : tie.Need-loop-again Inv-loop μ-loop
 loop-again c =

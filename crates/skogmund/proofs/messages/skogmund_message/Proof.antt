@@ -9,10 +9,10 @@ use borrow.Author.Needs.{needs}
 use borrow.Author.Tests.{le-leb, lt-leb, eq-eqb, ne-eqb, not-true, not-false}
 use Rattle.lent.specs.Lent.{doneBoth}
 use Rattle.lent.proofs.Answers.{room-said}
-use Rattle.message.proofs.RefusalNumbers.{place-within}
+use Rattle.message.proofs.RefusalNumbers.{place-within, few-fields}
+use Rattle.message.proofs.Views.{field-low}
 use Rattle.skogmund.specs.Entries.{noRoom}
 use Rattle.skogmund.specs.Messages.{messageTold}
-use Rattle.skogmund.proofs.MessagesWithin.{tellable}
 use Rattle.skogmund.proofs.messages.skogmund_message.Statement.{statement}
 use Rattle.skogmund.proofs.messages.skogmund_message.Tie as tie
 
@@ -50,7 +50,7 @@ write-spans-requires : tie.Need-write-spans-requires
 write-spans-requires c κs =
     let n = c .before .before .before .before in
     let r = read-of n in
-    (rw (r .read .ensures) (tellable _ (omega arith)), omega (arith, n .before .before .before .if2 .left))
+    (rw (r .read .ensures) (record { few = few-fields _; low = field-low _ (omega arith) }), omega (arith, n .before .before .before .if2 .left))
 
 returns-4 : tie.Need-returns-4
 unfolding messageTold
