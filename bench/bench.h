@@ -4,6 +4,7 @@
 
 void bench_unpacking(void);
 void bench_reading(void);
+void bench_messages(void);
 void bench_queues(void);
 void bench_growth(void);
 

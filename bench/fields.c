@@ -130,19 +130,33 @@ void make_small(struct field *f) {
 }
 
 static void append(struct message *m, const void *octets, size_t n) {
+    check(n <= sizeof m->octets - m->n, "the message has room");
     memcpy(m->octets + m->n, octets, n);
     m->n += n;
 }
 
-void make_message(struct message *m, const struct field *f) {
-    static const uint8_t section0[16] = {'G', 'R', 'I', 'B', 0, 0, 0, 2};
+/* Sections before `from` stay where they stand for the field before. */
+static void append_field(struct message *m, const struct field *f, int from) {
     static const uint8_t section6[6] = {0, 0, 0, 6, 6, 255};
-    m->n = 0;
-    append(m, section0, sizeof section0);
-    for (int i = 0; i < SECTIONS; i++) {
+    uint64_t k = m->fields++;
+    if (from != SECTION_1) memcpy(m->spans[k], m->spans[k - 1], sizeof m->spans[k]);
+    for (int i = from; i < SECTIONS; i++) {
         if (i == SECTION_7) append(m, section6, sizeof section6);
         if (i == SECTION_7) m->values_at = m->n + 5;
+        m->spans[k][i][0] = m->n + 1;
+        m->spans[k][i][1] = f->sections[i].n;
         append(m, f->sections[i].octets, f->sections[i].n);
+    }
+}
+
+void make_message(struct message *m, struct field *f, uint64_t fields) {
+    static const uint8_t section0[16] = {'G', 'R', 'I', 'B', 0, 0, 0, 2};
+    check(fields <= MOST_FIELDS, "a message has at most 16 fields");
+    m->n = m->fields = 0;
+    append(m, section0, sizeof section0);
+    while (m->fields < fields) {
+        put(&f->sections[SECTION_4], 19, 4, 6 * (m->fields + 1));
+        append_field(m, f, m->fields == 0 ? SECTION_1 : SECTION_4);
     }
     append(m, "7777", 4);
     for (size_t i = 0; i < 8; i++) m->octets[8 + i] = (uint8_t)((uint64_t)m->n >> (8 * (7 - i)));

@@ -1,16 +1,18 @@
 /* How the time grows with the input. Each input has twice the size of the one before. */
 #include "bench.h"
 #include "check.h"
+#include "messages.h"
 #include "queues.h"
 #include "skogmund.h"
 #include "timing.h"
 #include <stdio.h>
 
-enum { MOST_SIZES = 6, QUEUES = 4, MOST_VALUES = 32000, BITS = 12 };
+enum { MOST_SIZES = 6, QUEUES = 4, MESSAGES = 5, MOST_VALUES = 32000, BITS = 12 };
 
 static struct field fields[MOST_SIZES];
 static struct section grids[MOST_SIZES];
 static struct queue queues[QUEUES];
+static struct message messages[MESSAGES];
 
 static uint64_t unpack(void *about) {
     static uint32_t row[MOST_VALUES];
@@ -37,7 +39,7 @@ static void print_growth(const char *what, const char *sizes, struct job *jobs, 
 }
 
 void bench_growth(void) {
-    struct job unpacking[MOST_SIZES], filing[QUEUES], listing[QUEUES], reading[MOST_SIZES];
+    struct job unpacking[MOST_SIZES], filing[QUEUES], listing[QUEUES], reading[MOST_SIZES], cutting[MESSAGES];
     for (size_t i = 0; i < MOST_SIZES; i++) {
         make_rain(&fields[i], 100, 10u << i, BITS);
         make_listed_grid(&grids[i], 1000u << i);
@@ -50,6 +52,10 @@ void bench_growth(void) {
         filing[i] = (struct job){file_into_empty, &queues[i], 0};
         listing[i] = (struct job){list_queue, &queues[i], 0};
     }
+    for (size_t i = 0; i < MESSAGES; i++) {
+        make_message(&messages[i], &fields[0], 1u << i);
+        cutting[i] = (struct job){cut_message, &messages[i], 0};
+    }
     printf("## Growth\n\n");
     printf("What the time is multiplied by when the size doubles; 2 is growth in proportion.\n\n");
     printf("| what | sizes | factors |\n|---|---|---|\n");
@@ -57,5 +63,6 @@ void bench_growth(void) {
     print_growth("filing a queue, making the shelf empty included, records", "50 to 400", filing, QUEUES);
     print_growth("listing a queue, records", "50 to 400", listing, QUEUES);
     print_growth("reading section 3, numbers in its list", "1,000 to 32,000", reading, MOST_SIZES);
+    print_growth("cutting a message, fields", "1 to 16", cutting, MESSAGES);
     printf("\n");
 }

@@ -12,6 +12,7 @@ int main(void) {
            round_milliseconds());
     bench_unpacking();
     bench_reading();
+    bench_messages();
     bench_queues();
     bench_growth();
     return 0;

@@ -85,7 +85,7 @@ static void check_nothing_kept(void) {
 static void bench_width(uint8_t bits) {
     struct job jobs[DECODERS] = {{by_ours, NULL, 0}, {by_gbits, NULL, 0}, {by_simunpack, NULL, 0}, {by_eccodes, NULL, 0}};
     make_rain(&field, NI, NJ, bits);
-    make_message(&message, &field);
+    make_message(&message, &field, 1);
     all.bits = bits;
     all.handle = codes_handle_new_from_message(NULL, message.octets, message.n);
     check(all.handle != NULL, "ecCodes takes the message");

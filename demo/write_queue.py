@@ -39,32 +39,34 @@ def section_1(year, month, day, hour):
         (0, 1), (1, 1)))                                              # 20: status, type of data
 
 
-def section_3(ni, nj):
-    """A grid by template 3.0, without a list: 72 octets."""
+def section_3(ni, nj, step=250000):
+    """A grid by template 3.0, without a list, its points so many millionths of a degree apart: 72 octets."""
     return section(3, fields(
         (0, 1), (ni * nj, 4), (0, 1), (0, 1), (0, 2),                 # 6: source, number of points, no list, template 0
         (6, 1), (255, 1), (MISSING, 4),                               # 15: the earth, and its radius: scale factor, value
         (255, 1), (MISSING, 4), (255, 1), (MISSING, 4),               # 21: its two axes, in the same way
         (ni, 4), (nj, 4), (0, 4), (MISSING, 4),                       # 31: Ni, Nj, basic angle, its subdivisions
         (67750000, 4), (20000000, 4), (48, 1),                        # 47: La1 and Lo1, in millionths of a degree, resolution
-        (67250000, 4), (20750000, 4), (250000, 4), (250000, 4),       # 56: La2, Lo2, Di, Dj
+        (67750000 - step * (nj - 1), 4), (20000000 + step * (ni - 1), 4),  # 56: La2, Lo2
+        (step, 4), (step, 4),                                         # 64: Di, Dj
         (0, 1)))                                                      # 72: scanning mode
 
 
-def section_4(category, parameter, hours, height):
-    """A forecast by template 4.0, without coordinate values: 34 octets."""
+def section_4(category, parameter, hours, surface, height, template=0, interval=b""):
+    """A forecast by template 4.0, without coordinate values: 34 octets. 4.8 has an interval behind them."""
     return section(4, fields(
-        (0, 2), (0, 2), (category, 1), (parameter, 1), (2, 1),        # 6: NV, template 0, category, parameter, process
+        (0, 2), (template, 2), (category, 1), (parameter, 1), (2, 1),  # 6: NV, template, category, parameter, process
         (0, 1), (1, 1), (0, 2), (0, 1), (1, 1), (hours, 4),           # 13: models, cut-off hours and minutes, unit, forecast time
-        (103, 1), (0, 1), (height, 4),                                # 23: first surface: type, scale factor, value
-        (255, 1), (255, 1), (MISSING, 4)))                            # 29: no second surface
+        (surface, 1), (0, 1), (height, 4),                            # 23: first surface: type, scale factor, value
+        (255, 1), (255, 1), (MISSING, 4)) + interval)                 # 29: no second surface
 
 
-def section_5(values, bits):
-    """How section 7 has the values, by template 5.0, where a packed x stands for (R + x * 2 ** E) / 10 ** D: 21 octets."""
+def section_5(values, bits, r=0x45228000, e=-1):
+    """How section 7 has the values, by template 5.0, where a packed x stands for (R + x * 2 ** E) / 10 ** D: 21 octets. R is given by its IEEE
+    bits, which here are those of 2600.0."""
     return section(5, fields(
         (len(values), 4), (0, 2),                                     # 6: how many values, template 0
-        (0x45228000, 4), (-1, 2), (1, 2), (bits, 1), (0, 1)))         # 12: R (2600.0 as IEEE bits), E, D, bits per value, type
+        (r, 4), (e, 2), (1, 2), (bits, 1), (0, 1)))                   # 12: R, E, D, bits per value, type
 
 
 def section_7(values, bits):
@@ -94,9 +96,10 @@ def record(slot, issue, *sections):
 def temperature(slot, issue, day, hour):
     """A record of the temperature at 2 m, 6 hours after a run in March 2024, at 4 x 3 points."""
     values = [113, 115, 118, 121, 110, 112, 116, 119, 104, 108, 113, 117]
-    return record(slot, issue, section_1(2024, 3, day, hour), section_3(4, 3), section_4(0, 0, 6, 2), section_5(values, 9), section_7(values, 9))
+    return record(slot, issue, section_1(2024, 3, day, hour), section_3(4, 3), section_4(0, 0, 6, 103, 2), section_5(values, 9), section_7(values, 9))
 
 
-# A queue is its records one after the other, at most 65,536 octets. Here the second is passed, since its run is older, whatever its issue; the
-# third names no issue.
-sys.stdout.buffer.write(temperature(7, 40, 7, 0) + temperature(7, 41, 5, 12) + temperature(9, None, 7, 12))
+if __name__ == "__main__":
+    # A queue is its records one after the other, at most 65,536 octets. Here the second is passed, since its run is older, whatever its issue; the
+    # third names no issue.
+    sys.stdout.buffer.write(temperature(7, 40, 7, 0) + temperature(7, 41, 5, 12) + temperature(9, None, 7, 12))

@@ -22,7 +22,7 @@
 /* The version of what is declared here: the first number rises where an entry or a name that was there changes or goes, the second where one
    is new. */
 #define SKOGMUND_VERSION_MAJOR 3
-#define SKOGMUND_VERSION_MINOR 0
+#define SKOGMUND_VERSION_MINOR 1
 #define SKOGMUND_VERSION (SKOGMUND_VERSION_MAJOR * 1000 + SKOGMUND_VERSION_MINOR)
 
 /* ---- refusals
@@ -36,7 +36,7 @@
 
 /* The numbers. */
 #define SKOGMUND_REFUSED_UNDER_5 1        /* under 5 octets */
-#define SKOGMUND_REFUSED_TOO_LONG 2       /* a section or a queue above 65,536 octets */
+#define SKOGMUND_REFUSED_TOO_LONG 2       /* a section, a queue or a message above 65,536 octets */
 #define SKOGMUND_REFUSED_LENGTH 3         /* octets 1-4 are not the lent length */
 #define SKOGMUND_REFUSED_SECTION 4        /* another section number */
 #define SKOGMUND_REFUSED_UNDER_HEAD 5     /* too short for what stands before the template, and its number */
@@ -55,6 +55,10 @@
 #define SKOGMUND_REFUSED_QUEUE 19         /* a number that no queue has, or a record past the queue's end */
 #define SKOGMUND_REFUSED_BODY 20          /* a record's body is not five sections of 5 or more octets */
 #define SKOGMUND_REFUSED_OVER_TOTAL 21    /* longer than the total; the place is the first octet beyond */
+#define SKOGMUND_REFUSED_SECTION_0 22     /* a message under 20 octets, or its start, edition or total length is wrong */
+#define SKOGMUND_REFUSED_ORDER 23         /* a message's section is under 5 octets, runs into the last four, is missing or out of order */
+#define SKOGMUND_REFUSED_SECTION_6 24     /* section 6 is not 6 octets with 255 */
+#define SKOGMUND_REFUSED_END 25           /* a message's last four octets are not 7777, or a section follows the 16th field */
 
 #ifdef __cplusplus
 extern "C" {
@@ -83,6 +87,18 @@ uint64_t skogmund_part(uint8_t part, const uint8_t *s, size_t n, uint64_t k, uin
 
 /* Unpacks sections 5 and 7 into a row of exactly N places. Section 5's refusals, section 7's, then 18 where the row has another length. */
 uint64_t skogmund_unpack(const uint8_t *section5, size_t n5, const uint8_t *section7, size_t n7, uint32_t *row, size_t places);
+
+/* ---- messages */
+
+/* Enough places for the spans of every message: 16 fields, 10 places each. */
+#define SKOGMUND_SPANS 160
+
+/* Cuts a message into its fields, 1 to 16 of them. Where the sections 1, 3, 4, 5 and 7 of the k-th field (from 0) stand is in spans[10 * k] to
+   spans[10 * k + 9], of each its first octet in the message (from 1) and its length; one that the field doesn't repeat stands where it did
+   for the field before. count[0] is how many fields there are. 2; 22; the lowest of 23 to 25 at the first place where one is met; the refusal
+   of the first field that is refused, without 17, which is a matter of filing; then 18 where there are fewer than SKOGMUND_SPANS places or
+   none for the count (`one` is 0). The places past the last span stay as they were. */
+uint64_t skogmund_message(const uint8_t *message, size_t n, uint64_t *spans, size_t places, uint64_t *count, size_t one);
 
 /* ---- queues */
 

@@ -35,6 +35,14 @@ pub mod raw {
             length: *mut u64,
             one: usize,
         ) -> u64;
+        pub fn skogmund_message(
+            message: *const u8,
+            n: usize,
+            spans: *mut u64,
+            places: usize,
+            count: *mut u64,
+            one: usize,
+        ) -> u64;
         pub fn skogmund_empty(shelf: *mut u8, octets: usize) -> u64;
         pub fn skogmund_file(
             shelf: *mut u8,
@@ -182,6 +190,22 @@ pub fn list(queue: &[u8], text: &mut [u8], length: &mut [u64]) -> Answer {
             text.len(),
             lent_to_write(length),
             length.len(),
+        )
+    })
+}
+
+/// First octet (from 1) and length of sections 1, 3, 4, 5 and 7 of each field of a message, at the start of `spans`, and how many fields
+/// there are, into the first place of `count`.
+pub fn message(message: &[u8], spans: &mut [u64], count: &mut [u64]) -> Answer {
+    // SAFETY: as above.
+    Answer::of(unsafe {
+        raw::skogmund_message(
+            lent(message),
+            message.len(),
+            lent_to_write(spans),
+            spans.len(),
+            lent_to_write(count),
+            count.len(),
         )
     })
 }

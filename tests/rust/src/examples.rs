@@ -1,4 +1,5 @@
-//! Sections of document 01's examples, with zeros for all that an example does not say. Octets count from 1.
+//! Sections of document 01's examples, with zeros for all that an example does not say, and a message's. Octets count from 1.
+use crate::generate::messages::{group, Sections};
 use crate::reference::product::TEMPLATES;
 
 pub const MISSING: [u8; 4] = [255; 4];
@@ -76,4 +77,22 @@ pub fn section5(values: u8, bits: u8) -> Vec<u8> {
 
 pub fn section7(packed: &[u8]) -> Vec<u8> {
     closed([&[0, 0, 0, 0, 7], packed].concat())
+}
+
+/// Of so many octets, at most 255.
+pub fn section2(length: usize) -> Vec<u8> {
+    closed([&[0, 0, 0, 0, 2], &vec![0x20; length - 5][..]].concat())
+}
+
+/// The sections of a message behind section 0: section 1 of 2024-03-07 00:00:00, and groups that begin at these sections, each of twelve
+/// values of 9 bits and 4.8 with n = 1.
+pub fn message_sections(from: &[usize]) -> Sections {
+    let mut one = section1([7, 0xe8], 3, &[]);
+    one[16..19].fill(0);
+    let (three, four) = (four_by_three(12), section4(8, 58, 0, 1, 0));
+    let (five, seven) = (section5(12, 9), section7(&[0x37; 14]));
+    let field = [one.clone(), three, four, five, seven];
+    let groups = from.iter();
+    let groups = groups.flat_map(|&from| group(from, section2(5), field.clone()));
+    [one].into_iter().chain(groups).collect()
 }

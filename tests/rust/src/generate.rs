@@ -1,7 +1,8 @@
-//! Inputs from a seed: sections, fields, queues and shelves as document 01 and the header want them, and ways to damage them.
+//! Inputs from a seed: sections, fields, queues, messages and shelves as document 01 and the header want them, and ways to damage them.
 
 pub mod damage;
 pub mod filings;
+pub mod messages;
 pub mod queues;
 pub mod sections;
 pub mod shelves;

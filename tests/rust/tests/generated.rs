@@ -1,9 +1,11 @@
 //! What is generated undamaged is accepted by the reference, so that damage alone makes refusals.
 use skogmund_tests::generate::filings::Stock;
+use skogmund_tests::generate::messages::{framed, message, Whole};
 use skogmund_tests::generate::queues::{queue, record, spelled};
 use skogmund_tests::generate::sections::{self, Size};
 use skogmund_tests::generate::shelves::{any_shelf, of_another_length, shelf_beside};
 use skogmund_tests::generate::Rng;
+use skogmund_tests::reference::message::{self, sections_at, MOST_FIELDS};
 use skogmund_tests::reference::queue::named_issue;
 use skogmund_tests::reference::shelf::{Filed, Shelf};
 use skogmund_tests::reference::shelf_octets::SHELF_OCTETS;
@@ -78,10 +80,27 @@ fn fields_keep_their_time() {
 }
 
 #[test]
-fn same_seed_same_queue() {
+fn same_seed_same_queue_and_message() {
     for input in 0..100 {
-        let made = || queue(&mut Rng::of_input(5, input));
-        assert_eq!(made(), made());
+        let made = |make: fn(&mut Rng) -> Vec<u8>| make(&mut Rng::of_input(5, input));
+        assert_eq!(made(queue), made(queue));
+        assert_eq!(made(message), made(message));
+    }
+}
+
+#[test]
+fn messages_are_accepted_with_their_fields() {
+    for input in 0..TIMES / 10 {
+        let rng = &mut Rng::of_input(9, input);
+        let count = rng.within(1, MOST_FIELDS);
+        let whole = Whole::of(rng, count);
+        let message = framed(&whole.sections);
+        let read = message::read(&message).unwrap_or_else(|refusal| panic!("{refusal}"));
+        let sections = read.iter().map(|field| sections_at(&message, field.spans));
+        assert!(sections.eq(whole
+            .fields
+            .iter()
+            .map(|field| field.each_ref().map(|s| &s[..]))));
     }
 }
 

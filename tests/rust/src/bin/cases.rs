@@ -1,7 +1,7 @@
 //! Writes what the programs are run on and what they must print, worked out by the reference and from an independent decoder's answers
 //! (`skogmund_tests::cases`), and the demonstration queues.
 //!
-//!   cases            writes stdin and stdout of crates/cases, crates/listing and crates/explain, and demo/
+//!   cases            writes stdin and stdout of crates/cases, crates/listing, crates/explain and crates/fields, and demo/
 //!   cases --check    only says whether they are as they would be written; the status is 1 where they are not
 use skogmund_tests::cases::files;
 use std::path::PathBuf;

@@ -2,7 +2,7 @@
 use super::asked::{hex, Asked};
 use crate::reference::listing::fate;
 use crate::reference::shelf::{Card, Shelf};
-use crate::reference::{self, explanation, listing, Span};
+use crate::reference::{self, contents, explanation, listing, Span};
 
 /// What each place of a row holds before unpacking.
 const HELD: u32 = 9;
@@ -166,6 +166,7 @@ impl Shelves {
                 .held()
                 .fold("held".to_string(), |line, slot| line + &held(slot)),
             Asked::Queue(queue) => listing(queue) + &in_short(explanation(queue)),
+            Asked::Message(message) => contents(message),
         }
     }
 

@@ -21,6 +21,8 @@ pub enum Asked {
     Show,
     /// The listing and the explanation of a queue.
     Queue(Vec<u8>),
+    /// The contents of a message.
+    Message(Vec<u8>),
 }
 
 pub fn hex(octets: &[u8]) -> String {
@@ -59,6 +61,7 @@ impl Asked {
             Asked::Join => "j".to_string(),
             Asked::Show => "s".to_string(),
             Asked::Queue(queue) => format!("q {}", run(queue)),
+            Asked::Message(message) => format!("m {}", run(message)),
         }
     }
 }

@@ -1,12 +1,16 @@
-//! Messages read by an independent decoder: the rows of their sections by the keys that it gives, the parts and the coded numbers.
+//! Messages read by an independent decoder: where their fields' sections stand, the rows of these by the keys that it gives, the parts and the
+//! coded numbers.
 //!
 //! `cases/collect` took them over. Where the decoder differs from document 01, document 01 is right, and what the decoder gives is read
 //! again here: it takes the scaled values of surfaces, limits and sizes, the year beside an offset and the longitude of the southern pole
 //! as unsigned, and it has one name for the scale factor and the value of the cluster's distance, which are taken from the octets. It has
 //! cut-off minutes of 255 as missing, which are raw here. Template 4.67, which three messages have, is not listed, so that their section 4
-//! is refused with 6.
+//! is refused with 6, and with it the message.
 use super::answer::{list, lists, row, written};
 use super::{Asked, Cases};
+use crate::generate::messages::framed;
+use crate::reference::listing::CONTENTS;
+use crate::reference::message::{MOST_FIELDS, NO_BIT_MAP, SECTION_0};
 use crate::reference::octets::{number, signed};
 use std::collections::BTreeMap;
 use Told::{Key, Number, Octets, OrOnes, Signed};
@@ -29,8 +33,17 @@ enum Told {
 /// A row in the order of docs/VALUES.md, block by block.
 type Block = &'static [Told];
 
+/// The lengths of the sections.
+const LENGTHS: [&str; 5] = [
+    "section1Length",
+    "section3Length",
+    "section4Length",
+    "section5Length",
+    "section7Length",
+];
+
 const ORIGIN: Block = &[
-    Key("section1Length"),
+    Key(LENGTHS[0]),
     Number(1),
     Key("centre"),
     Key("subCentre"),
@@ -54,13 +67,13 @@ const CALENDAR: &str = "typeOfCalendar";
 const OFFSET: &str = "numberOfTensOfThousandsOfYearsOfOffset";
 
 const GRID: Block = &[
-    Key("section3Length"),
+    Key(LENGTHS[1]),
     Number(3),
     Key("sourceOfGridDefinition"),
-    Key("numberOfDataPoints"),
+    Key(POINTS),
     Key(LIST_WIDTH),
     Key("interpretationOfNumberOfPoints"),
-    Key("gridDefinitionTemplateNumber"),
+    Key(GRID_TEMPLATE),
     Key("shapeOfTheEarth"),
     Key("scaleFactorOfRadiusOfSphericalEarth"),
     Key("scaledValueOfRadiusOfSphericalEarth"),
@@ -81,7 +94,9 @@ const GRID: Block = &[
     Key("jDirectionIncrement"),
     Key("scanningMode"),
 ];
+const POINTS: &str = "numberOfDataPoints";
 const LIST_WIDTH: &str = "numberOfOctectsForNumberOfPoints";
+const GRID_TEMPLATE: &str = "gridDefinitionTemplateNumber";
 const ROTATION: Block = &[
     Key("latitudeOfSouthernPole"),
     Signed("longitudeOfSouthernPole", 4),
@@ -94,7 +109,7 @@ const STRETCHING: Block = &[
 ];
 
 const PARAMETER: Block = &[
-    Key("section4Length"),
+    Key(LENGTHS[2]),
     Number(4),
     Key("NV"),
     Key(PRODUCT_TEMPLATE),
@@ -177,26 +192,36 @@ const RANGE: [(&str, usize); 6] = [
 ];
 
 const PACKING: Block = &[
-    Key("section5Length"),
+    Key(LENGTHS[3]),
     Number(5),
     Key("numberOfValues"),
     Key("dataRepresentationTemplateNumber"),
     Key("referenceValue"),
     Key("binaryScaleFactor"),
     Key("decimalScaleFactor"),
-    Key("bitsPerValue"),
+    Key(BITS),
     Key("typeOfOriginalFieldValues"),
 ];
-const DATA: Block = &[Key("section7Length"), Number(7)];
+const BITS: &str = "bitsPerValue";
+const DATA: Block = &[Key(LENGTHS[4]), Number(7)];
 
 /// A field as the decoder has it; a key whose value is missing is `None`.
+#[derive(Default)]
+pub struct Field {
+    /// The first octet of each section in the message.
+    firsts: Vec<usize>,
+    sections: Vec<Vec<u8>>,
+    keys: BTreeMap<&'static str, Option<i64>>,
+    lists: BTreeMap<&'static str, Vec<u32>>,
+}
+
+/// A message as the decoder has it.
 #[derive(Default)]
 pub struct Message {
     name: &'static str,
     decoder: &'static str,
-    sections: Vec<Vec<u8>>,
-    keys: BTreeMap<&'static str, Option<i64>>,
-    lists: BTreeMap<&'static str, Vec<u32>>,
+    octets: Vec<u8>,
+    pub fields: Vec<Field>,
 }
 
 fn octets_of(hex: &str) -> Vec<u8> {
@@ -209,10 +234,10 @@ pub fn messages() -> Vec<Message> {
     let mut messages: Vec<Message> = vec![];
     for line in CORPUS.lines() {
         let (word, rest) = line.split_once(' ').expect("a word and more");
-        if word == "field" {
+        if word == "message" {
             messages.push(Message::default());
         }
-        let message = messages.last_mut().expect("a field comes first");
+        let message = messages.last_mut().expect("a message comes first");
         message.take(word, rest);
     }
     messages
@@ -221,11 +246,48 @@ pub fn messages() -> Vec<Message> {
 impl Message {
     /// A line of the corpus.
     fn take(&mut self, word: &str, rest: &'static str) {
+        match word {
+            "message" => self.name = rest,
+            "decoder" => self.decoder = rest,
+            "octets" => self.octets = octets_of(rest),
+            "field" => self.fields.push(Field::default()),
+            _ => {
+                let field = self.fields.last_mut().expect("a field comes first");
+                field.take(word, rest, &self.octets);
+            }
+        }
+    }
+
+    /// What is asked of the message and of its fields' sections, and what the decoder's answers tell of each.
+    pub fn answers(&self) -> Vec<(Asked, String)> {
+        let fields = (1..).zip(&self.fields);
+        let lines = fields.map(|(number, field)| field.line(number, &field.firsts));
+        let told = told(&self.fields, lines.collect());
+        let mut answers = vec![(Asked::Message(self.octets.clone()), told)];
+        answers.extend(self.fields.iter().flat_map(|field| field.answers()));
+        answers
+    }
+}
+
+/// What is printed of a message of these fields, whose lines these are.
+fn told(fields: &[Field], lines: String) -> String {
+    match fields.iter().all(|field| field.has_listed_template()) {
+        true => format!("{CONTENTS}{lines}fields {}\n", fields.len()),
+        false => "refused 6 4 0\n".to_string(),
+    }
+}
+
+impl Field {
+    /// A line of the corpus, of a field of the message that has these octets.
+    fn take(&mut self, word: &str, rest: &'static str, message: &[u8]) {
         let (name, values) = rest.split_once(' ').unwrap_or((rest, ""));
         match word {
-            "field" => self.name = rest,
-            "decoder" => self.decoder = rest,
-            "section" => self.sections.push(octets_of(rest)),
+            "section" => {
+                let number = |word: &str| -> usize { word.parse().expect("a number") };
+                let (first, length) = (number(name), number(values));
+                self.firsts.push(first);
+                self.sections.push(message[first - 1..][..length].to_vec());
+            }
             "key" => {
                 let is_missing = values == "missing";
                 let number = (!is_missing).then(|| values.parse().expect("a number"));
@@ -352,14 +414,29 @@ impl Message {
         self.sections.concat()
     }
 
+    /// Real year to second.
+    fn time(&self) -> String {
+        let keys = ["month", "day", "hour", "minute", "second"];
+        let later = keys.map(|key| format!(" {}", self.number(key)));
+        self.real_year().to_string() + &later.concat()
+    }
+
     /// The line of the listing, where the field is filed to this slot and no issue is named; none where it is refused.
     pub fn listed(&self, slot: u64) -> Option<String> {
         let gregorian = !self.has(CALENDAR) || self.number(CALENDAR) == 0;
-        let keys = ["month", "day", "hour", "minute", "second"];
-        let later = keys.map(|key| format!("{} ", self.number(key))).concat();
-        let (year, template) = (self.real_year(), self.number(PRODUCT_TEMPLATE));
+        let (time, template) = (self.time(), self.number(PRODUCT_TEMPLATE));
         let filed = self.has_listed_template() && gregorian;
-        filed.then(|| format!("{slot} {year} {later}0 {template}\n"))
+        filed.then(|| format!("{slot} {time} 0 {template}\n"))
+    }
+
+    /// The line of a message's contents, where the field has this number and its sections begin at these octets.
+    fn line(&self, number: usize, firsts: &[usize]) -> String {
+        let keys = [GRID_TEMPLATE, PRODUCT_TEMPLATE, POINTS, BITS];
+        let numbers = keys.map(|key| format!(" {}", self.number(key))).concat();
+        let spans = firsts.iter().zip(LENGTHS);
+        let spans = spans.map(|(first, length)| format!(" {first} {}", self.number(length)));
+        let spans: String = spans.collect();
+        format!("{number} {}{numbers}{spans}\n", self.time())
     }
 
     /// What is asked of each section, and the line that the decoder's answers tell.
@@ -378,6 +455,45 @@ impl Message {
     }
 }
 
+/// Fields of one section 1 in one message, each with a section 3 where another one is in force, and what the decoder's answers tell of it.
+fn in_one_message(fields: &[Field]) -> (Asked, String) {
+    let (mut sections, mut lines): (Vec<Vec<u8>>, String) = Default::default();
+    let mut in_force: [&[u8]; 5] = Default::default();
+    let mut firsts = [0; 5];
+    for (number, field) in (1..).zip(fields) {
+        for (at, section) in field.sections.iter().enumerate() {
+            // Sections 1 and 3 may stay in force.
+            if at < 2 && in_force[at] == section {
+                continue;
+            }
+            if at == 4 {
+                sections.push(NO_BIT_MAP.to_vec());
+            }
+            (in_force[at], firsts[at]) = (section, SECTION_0 + sections.concat().len() + 1);
+            sections.push(section.clone());
+        }
+        lines += &field.line(number, &firsts);
+    }
+    (Asked::Message(framed(&sections)), told(fields, lines))
+}
+
+/// Messages of as many fields as one may have, gathered from those that have the section 1 which most have.
+pub fn gathered() -> Vec<(Asked, String)> {
+    let fields = messages().into_iter().flat_map(|message| message.fields);
+    let fields: Vec<Field> = fields.filter(Field::has_listed_template).collect();
+    let with_one = |one: &[u8]| {
+        fields
+            .iter()
+            .filter(|field| field.sections[0] == one)
+            .count()
+    };
+    let ones = fields.iter().map(|field| field.sections[0].clone());
+    let most = ones.max_by_key(|one| with_one(one)).expect("a field");
+    let fields = fields.into_iter().filter(|field| field.sections[0] == most);
+    let fields: Vec<Field> = fields.collect();
+    fields.chunks(MOST_FIELDS).map(in_one_message).collect()
+}
+
 pub fn add(cases: &mut Cases) {
     cases.begin("");
     for message in messages() {
@@ -385,5 +501,9 @@ pub fn add(cases: &mut Cases) {
         for (asked, printed) in message.answers() {
             cases.push(&shows, asked, printed);
         }
+    }
+    for (asked, printed) in gathered() {
+        let shows = "fields of several of these messages in one";
+        cases.push(shows, asked, printed);
     }
 }

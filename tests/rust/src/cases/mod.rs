@@ -7,6 +7,7 @@ mod asked;
 mod build;
 pub mod decoded;
 pub mod demo;
+mod messages;
 mod queue_edges;
 mod queue_records;
 mod queues;
@@ -17,9 +18,10 @@ mod section5;
 mod shelves;
 
 pub use asked::Asked;
+pub use messages::EXAMPLE_CONTENTS;
 pub use queues::EXAMPLE_LISTING;
 
-use crate::reference::{explanation, listing};
+use crate::reference::{contents, explanation, listing};
 use answer::Shelves;
 
 /// What is asked of the program `cases`, and what it must print.
@@ -91,6 +93,7 @@ pub fn all() -> Vec<Case> {
     shelves::add(&mut cases);
     decoded::add(&mut cases);
     queues::add(&mut cases);
+    messages::add(&mut cases);
     cases.list
 }
 
@@ -129,6 +132,9 @@ pub fn files() -> Vec<(String, Vec<u8>)> {
     let mut files = Vec::from(of_cases());
     files.extend(two_files("listing", example, listed));
     files.extend(two_files("explain", spoilt, explained));
+    let message = messages::several_groups();
+    let told = contents(&message);
+    files.extend(two_files("fields", message, told));
     for (name, queue) in demo::files() {
         files.push((format!("demo/{name}"), queue));
     }

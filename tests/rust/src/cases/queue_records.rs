@@ -30,10 +30,10 @@ fn month_0() -> Vec<u8> {
 }
 
 /// A section that is refused: its place in a field, and number, section and place of the refusal.
-struct Bad {
-    at: usize,
-    section: Vec<u8>,
-    told: (u8, u8, u32),
+pub struct Bad {
+    pub at: usize,
+    pub section: Vec<u8>,
+    pub told: (u8, u8, u32),
 }
 
 /// Refused by its own reader: places 0 to 4 are sections 1, 3, 4, 5 and 7.
@@ -158,7 +158,7 @@ fn bad_of_sections_5_and_7() -> Vec<Bad> {
 }
 
 /// By the refusal's number and section.
-fn all_bad() -> Vec<Bad> {
+pub fn all_bad() -> Vec<Bad> {
     let mut all = bad_of_section1();
     all.extend(bad_of_section3());
     all.extend(bad_of_section4());

@@ -178,17 +178,18 @@ fn every_slot(cases: &mut Queues) {
 /// What the decoder's keys say of them is listed, and counted.
 fn messages(cases: &mut Queues) {
     let messages = decoded::messages();
+    let fields: Vec<&decoded::Field> = messages.iter().flat_map(|one| &one.fields).collect();
     let queue = |slot: fn(u64) -> u64| -> Vec<u8> {
-        let records = (0..).zip(&messages);
-        let records = records.map(|(at, message)| record(slot(at), None, &message.body()));
+        let records = (0..).zip(&fields);
+        let records = records.map(|(at, field)| record(slot(at), None, &field.body()));
         records.flatten().collect()
     };
-    let lines = (0..).zip(&messages);
+    let lines = (0..).zip(&fields);
     let lines: String = lines
-        .filter_map(|(slot, message)| message.listed(slot))
+        .filter_map(|(slot, field)| field.listed(slot))
         .collect();
     let filed = lines.lines().count();
-    let refused = messages.len() - filed;
+    let refused = fields.len() - filed;
     let shows = "messages of an independent decoder, a slot to each";
     let stated = format!("{lines}kept {filed} passed 0 refused {refused}\n");
     cases.stated(shows, queue(|at| at), &stated);

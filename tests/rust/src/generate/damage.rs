@@ -1,6 +1,8 @@
-//! Ways to damage a section or a queue.
+//! Ways to damage a section, a queue or a message.
+use super::messages::close_message;
 use super::sections::{close, edge, put, MISSING};
 use super::Rng;
+use crate::reference::message::{SECTION_0, TOTAL_AT};
 use crate::reference::octets::number;
 use crate::reference::table::{rows, Field};
 use crate::reference::{grid, identification, packing, product, MOST_OCTETS};
@@ -234,5 +236,59 @@ pub fn damage_queue(rng: &mut Rng, queue: &mut Vec<u8>) {
         9..=14 => extend(rng, queue),
         15..=20 => overwrite(rng, queue),
         _ => flip(rng, queue),
+    }
+}
+
+fn change_total(rng: &mut Rng, message: &mut [u8]) {
+    let total = number(message, TOTAL_AT, SECTION_0);
+    let wrong = match rng.below(6) {
+        0..=1 => total.wrapping_add(1),
+        2 => total.wrapping_sub(1),
+        // One of the upper octets, for a reader of four.
+        3 => total ^ 1 << rng.within(32, 63),
+        4 => total.swap_bytes(),
+        _ => rng.any(),
+    };
+    put(message, TOTAL_AT, SECTION_0, wrong);
+}
+
+/// Start, edition or total length.
+fn damage_section0(rng: &mut Rng, message: &mut [u8]) {
+    if message.len() < SECTION_0 {
+        return flip(rng, message);
+    }
+    match rng.below(6) {
+        0..=1 => message[rng.below(4)] = rng.octet(),
+        2 => message[7] = rng.pick(&[0, 1, 3, 0x82, 255]),
+        _ => change_total(rng, message),
+    }
+}
+
+/// An octet of the last four.
+fn spoil_end(rng: &mut Rng, message: &mut [u8]) {
+    let last = message.len().saturating_sub(4);
+    flip(rng, &mut message[last..]);
+}
+
+fn cut_message(rng: &mut Rng, message: &mut Vec<u8>) {
+    match rng.below(2) {
+        0 => message.truncate(rng.within(14, 24)),
+        _ => cut(rng, message),
+    }
+}
+
+/// One damage to a message. Where it is not section 0's, octets 9-16 stay true or not.
+pub fn damage_message(rng: &mut Rng, message: &mut Vec<u8>) {
+    match rng.below(60) {
+        0..=19 => return damage_section0(rng, message),
+        20 => swell(rng, message),
+        21..=34 => spoil_end(rng, message),
+        35..=44 => cut_message(rng, message),
+        45..=49 => extend(rng, message),
+        50..=54 => overwrite(rng, message),
+        _ => flip(rng, message),
+    }
+    if rng.percent(70) {
+        close_message(message);
     }
 }

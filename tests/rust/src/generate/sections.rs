@@ -329,6 +329,9 @@ pub fn packed(rng: &mut Rng) -> (Vec<u8>, Vec<u8>) {
     (section5(rng, values, bits), section7(rng, values, bits))
 }
 
+/// The most octets of a section 7 that is not large.
+pub const SMALL_DATA: usize = 400;
+
 /// Points of an accepted section 3.
 fn points(three: &[u8]) -> u64 {
     number(three, grid::POINTS_AT, 10)
@@ -342,6 +345,13 @@ fn wide_section3(rng: &mut Rng) -> Vec<u8> {
     let (ni, nj) = (rng.within(1, 300) as u64, rng.within(1, 300) as u64);
     with_counts(&mut s, 0, 0, ni, nj, ni * nj);
     s
+}
+
+/// Sections 4, 5 and 7 of a field over this section 3, where section 7 has at most so many octets.
+pub fn over(rng: &mut Rng, three: &[u8], size: Size, octets: usize) -> [Vec<u8>; 3] {
+    let four = section4(rng, size);
+    let (five, seven) = packed_within(rng, points(three), octets);
+    [four, five, seven]
 }
 
 /// Sections 5 and 7 for so many values, of at most so many octets.
@@ -368,8 +378,7 @@ pub fn field_at(rng: &mut Rng, time: [i64; 6], size: Size) -> [Vec<u8>; 5] {
         7 => wide_section3(rng),
         _ => section3(rng, of(3)),
     };
-    let four = section4(rng, of(4));
-    let room = if large == 7 { 64_000 } else { 400 };
-    let (five, seven) = packed_within(rng, points(&three), room);
+    let room = if large == 7 { 64_000 } else { SMALL_DATA };
+    let [four, five, seven] = over(rng, &three, of(4), room);
     [one, three, four, five, seven]
 }

@@ -1,5 +1,6 @@
 //! What the C entries owe beyond document 01, from the header's text: the sizes of what is lent, what is written at its start,
 //! and shelves as octets. Each gives what is written, so that all else stays as it was.
+use super::message::{self, MessageField, MOST_FIELDS, OF_A_FIELD};
 use super::queue::{self, named_issue, Fates, GREATEST};
 use super::shelf::{Card, Filed, Shelf, SLOTS};
 use super::shelf_octets::SHELF_OCTETS;
@@ -7,6 +8,8 @@ use super::{parts, refuse_if, Outcome};
 
 /// Places that the values of every section, and of a slot, are lent.
 pub const VALUES: usize = 64;
+/// Places that the spans of every message are lent: first octet and length of each section of each field.
+pub const SPANS: usize = 2 * OF_A_FIELD.len() * MOST_FIELDS;
 
 /// 18, which comes after all other refusals.
 fn refuse_places(too_few: bool) -> Outcome<()> {
@@ -42,6 +45,17 @@ pub fn part(part: u8, s: &[u8], k: u64, places: usize) -> Outcome<[u64; 2]> {
 pub fn list(text: &str, places: usize, one: usize) -> Outcome<&[u8]> {
     refuse_places(text.len() > places || one == 0)?;
     Ok(text.as_bytes())
+}
+
+/// The spans of the fields of a message, into so many places; how many fields there are goes into the first of `one` places.
+pub fn message(message: &[u8], places: usize, one: usize) -> Outcome<Vec<[u64; 10]>> {
+    let fields = message::read(message)?;
+    refuse_places(places < SPANS || one == 0)?;
+    let spans = |field: MessageField| {
+        let pairs = field.spans.map(|span| [span.first, span.length]);
+        pairs.concat().try_into().expect("five pairs")
+    };
+    Ok(fields.into_iter().map(spans).collect())
 }
 
 pub fn empty(octets: usize) -> Outcome<Vec<u8>> {
@@ -98,6 +112,8 @@ pub fn slot(shelf: &[u8], slot: u64, places: usize) -> Outcome<Vec<i64>> {
 #[cfg(test)]
 mod tests {
     use super::*;
+    use crate::examples::message_sections;
+    use crate::generate::messages::framed;
     use crate::reference::Refusal;
 
     const SECTION_7: [u8; 6] = [0, 0, 0, 6, 7, 0xff];
@@ -116,6 +132,18 @@ mod tests {
         assert_eq!(slot(&[], 63, VALUES), Err(Refusal::of_none(18)));
         assert_eq!(file_queue(&[], &[0x80], 0), Err(Refusal::of_none(19)));
         assert_eq!(file_queue(&[], &[], 3), Err(Refusal::of_none(18)));
+    }
+
+    #[test]
+    fn too_few_places_for_a_message_come_last() {
+        let good = framed(&message_sections(&[3]));
+        let of = |places, one| message(&good, places, one).map(|fields| fields.len());
+        assert_eq!(SPANS, 160);
+        assert_eq!(of(160, 1), Ok(1));
+        assert_eq!(of(161, 2), Ok(1));
+        assert_eq!(of(159, 1), Err(Refusal::of_none(18)));
+        assert_eq!(of(160, 0), Err(Refusal::of_none(18)));
+        assert_eq!(message(&good[1..], 0, 0), Err(Refusal::of_none(22)));
     }
 
     #[test]

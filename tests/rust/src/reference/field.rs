@@ -1,11 +1,15 @@
 //! One field: sections 1, 3, 4, 5 and 7 together.
+use super::grid::{self, Grid};
 use super::identification::{self, Identification};
-use super::product::Product;
-use super::{grid, packing, product, refuse_if, Outcome};
+use super::packing::{self, Packing};
+use super::product::{self, Product};
+use super::{refuse_if, Outcome};
 
 pub struct FieldRead {
     pub identification: Identification,
+    pub grid: Grid,
     pub product: Product,
+    pub packing: Packing,
 }
 
 /// The first refusal of sections 1, 3, 4, 5 (with 14) and 7.
@@ -19,6 +23,8 @@ pub fn read(sections: [&[u8]; 5]) -> Outcome<FieldRead> {
     packing::look_at_data(seven, &packing)?;
     Ok(FieldRead {
         identification,
+        grid,
         product,
+        packing,
     })
 }

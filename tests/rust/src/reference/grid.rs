@@ -6,7 +6,7 @@ use super::{refuse_if, Outcome};
 
 const SECTION: u8 = 3;
 const SHORTEST: usize = 14;
-const TEMPLATE_AT: usize = 13;
+pub const TEMPLATE_AT: usize = 13;
 pub const POINTS_AT: usize = 7;
 pub const WIDTH_AT: usize = 11;
 pub const INTERPRETATION_AT: usize = 12;

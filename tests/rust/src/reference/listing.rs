@@ -1,14 +1,18 @@
-//! What the two programs print of a queue: the listing and the explanation.
+//! What the programs print: the listing and the explanation of a queue, and the contents of a message.
+use super::message::{self, MessageField};
 use super::queue::{counts, file_queue, records, Fates, QueueRecord};
 use super::shelf::{Card, Filed, Shelf};
-use super::{Outcome, Refusal};
+use super::{grid, product, Outcome, Refusal, Span};
 
 const HEADING: &str = "slot year month day hour minute second issue template\n";
 
+fn time([year, month, day, hour, minute, second]: [i64; 6]) -> String {
+    format!("{year} {month} {day} {hour} {minute} {second}")
+}
+
 fn held_line(slot: usize, card: &Card) -> String {
-    let [year, month, day, hour, minute, second] = card.reference_time;
-    let (issue, template) = (card.issue, card.template());
-    format!("{slot} {year} {month} {day} {hour} {minute} {second} {issue} {template}\n")
+    let (time, issue, template) = (time(card.reference_time), card.issue, card.template());
+    format!("{slot} {time} {issue} {template}\n")
 }
 
 fn counts_line(fates: &Fates) -> String {
@@ -45,8 +49,12 @@ pub fn fate(filed: &Outcome<Filed>) -> String {
     match filed {
         Ok(Filed::Kept) => "kept".to_string(),
         Ok(Filed::Passed) => "passed".to_string(),
-        Err(refusal) => format!("refused {refusal}"),
+        Err(refusal) => refused(*refusal),
     }
+}
+
+fn refused(refusal: Refusal) -> String {
+    format!("refused {refusal}")
 }
 
 /// A record's line; an issue that is not named is a dash.
@@ -67,9 +75,41 @@ pub fn explanation(queue: &[u8]) -> String {
     }
 }
 
+pub const CONTENTS: &str = "field year month day hour minute second grid product points bits \
+                            first1 length1 first3 length3 first4 length4 first5 length5 first7 length7\n";
+
+fn field_line((place, field): (usize, &MessageField)) -> String {
+    let read = &field.read;
+    let time = time(read.identification.reference_time());
+    let grid = read.grid.record.number(grid::TEMPLATE_AT);
+    let product = read.product.record.number(product::TEMPLATE_AT);
+    let (points, bits) = (read.grid.points, read.packing.bits);
+    let spans = field
+        .spans
+        .map(|Span { first, length }| format!(" {first} {length}"));
+    format!(
+        "{place} {time} {grid} {product} {points} {bits}{}\n",
+        spans.concat()
+    )
+}
+
+/// The fields of a message.
+pub fn contents(message: &[u8]) -> String {
+    match message::read(message) {
+        Ok(fields) => {
+            let lines = (1..).zip(&fields).map(field_line);
+            let count = fields.len();
+            CONTENTS.to_string() + &lines.collect::<String>() + &format!("fields {count}\n")
+        }
+        Err(refusal) => refused(refusal) + "\n",
+    }
+}
+
 #[cfg(test)]
 mod tests {
     use super::*;
+    use crate::examples::message_sections;
+    use crate::generate::messages::framed;
 
     #[test]
     fn empty_queue() {
@@ -91,5 +131,17 @@ mod tests {
         let lines = "1 64 - refused 20 0 0\n2 0 0 refused 20 0 0\n";
         assert_eq!(explanation(&queue), format!("{EXPLAINED}{lines}{counts}"));
         assert_eq!(explanation(&[0x80, 0x00]), "refused 19\n");
+    }
+
+    #[test]
+    fn a_message() {
+        let mut sections = message_sections(&[3]);
+        let line = "1 2024 3 7 0 0 0 0 8 12 9 17 21 38 72 110 58 168 21 195 19\n";
+        let expected = format!("{CONTENTS}{line}fields 1\n");
+        assert_eq!(contents(&framed(&sections)), expected);
+        sections[0][14] = 0;
+        assert_eq!(contents(&framed(&sections)), "refused 8 1 15\n");
+        sections.pop();
+        assert_eq!(contents(&framed(&sections)), "refused 23 0 0\n");
     }
 }

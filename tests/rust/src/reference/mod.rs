@@ -7,6 +7,7 @@ pub mod grid;
 pub mod head;
 pub mod identification;
 pub mod listing;
+pub mod message;
 pub mod octets;
 pub mod packing;
 pub mod parts;
@@ -16,13 +17,13 @@ pub mod shelf;
 pub mod shelf_octets;
 pub mod table;
 
-pub use listing::{explanation, listing};
+pub use listing::{contents, explanation, listing};
 pub use packing::unpack;
 pub use parts::{part, Span};
 
 use std::fmt;
 
-/// The most octets that a section or a queue may have.
+/// The most octets that a section, a queue or a message may have.
 pub const MOST_OCTETS: usize = 65_536;
 
 /// A number of the table of refusals, the section asked for, and the place.

@@ -7,7 +7,7 @@ use super::{refuse_if, Outcome};
 const SECTION: u8 = 4;
 const SHORTEST: usize = 9;
 pub const NV_AT: usize = 6;
-const TEMPLATE_AT: usize = 8;
+pub const TEMPLATE_AT: usize = 8;
 pub const RANGE_OCTETS: usize = 12;
 const COORDINATE_OCTETS: usize = 4;
 

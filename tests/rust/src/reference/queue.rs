@@ -6,7 +6,7 @@ use super::{refuse_if, Outcome, Refusal, MOST_OCTETS};
 const MOST_GROUPS: usize = 5;
 /// The greatest number of a queue, and issue + 1 at the most.
 pub const GREATEST: u64 = 4_294_967_296;
-const SMALLEST_SECTION: u64 = 5;
+pub const SMALLEST_SECTION: u64 = 5;
 
 /// What is left of a queue.
 struct Rest<'a>(&'a [u8]);

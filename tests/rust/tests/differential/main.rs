@@ -8,6 +8,7 @@
 mod histories;
 mod lent;
 mod listings;
+mod messages;
 mod parts_shown;
 mod reading;
 mod shelves;
@@ -29,11 +30,12 @@ const INPUTS_TO_A_HISTORY: u64 = 40;
 const MOST_DIFFERENCES: usize = 5;
 
 fn one_input(rng: &mut Rng, tally: &mut Tally) -> Result<(), String> {
-    match rng.below(20) {
+    match rng.below(23) {
         0..=5 => reading::one_reading(rng, tally),
         6..=8 => parts_shown::parts_of_a_section(rng, tally),
         9..=11 => unpacking::one_unpacking(rng, tally),
         12..=13 => listings::one_listing(rng, tally),
+        14..=16 => messages::one_message(rng, tally),
         _ => shelves::calls_on_shelves(rng, tally),
     }
 }

@@ -1,4 +1,5 @@
 //! What came up in a run, and what has to.
+use crate::messages;
 use skogmund_tests::reference::shelf::Filed;
 use skogmund_tests::reference::{grid, identification, product, Outcome, Refusal};
 use std::collections::BTreeMap;
@@ -71,7 +72,7 @@ impl Tally {
 }
 
 /// What each entry can meet by document 01 and the header. The sections of a body are cut by their own lengths, so that 1, 2 and 3 can't
-/// come up in a queue.
+/// come up in a queue; those of a message by their numbers too, so that 4 can't come up there.
 const EVERY_REFUSAL: &[(&str, u8, &[u8])] = &[
     ("read", 0, &[18]),
     ("read", 1, &[1, 2, 3, 4, 5, 6, 7, 8, 21]),
@@ -91,6 +92,12 @@ const EVERY_REFUSAL: &[(&str, u8, &[u8])] = &[
     ("list", 4, &[4, 5, 6, 7, 8, 9, 11, 21]),
     ("list", 5, &[4, 5, 6, 7, 8, 21, 14]),
     ("list", 7, &[4, 15]),
+    ("message", 0, &[2, 18, 22, 23, 24, 25]),
+    ("message", 1, &[5, 6, 7, 8, 21]),
+    ("message", 3, &[5, 6, 7, 8, 10, 11, 21, 13]),
+    ("message", 4, &[5, 6, 7, 8, 9, 11, 21]),
+    ("message", 5, &[5, 6, 7, 8, 21, 14]),
+    ("message", 7, &[15]),
     ("empty", 0, &[18]),
     ("file", 0, &[16, 18, 19]),
     ("file", 1, &[1, 2, 3, 4, 5, 6, 7, 8, 21, 17]),
@@ -169,7 +176,7 @@ pub fn template_kind(entry: &str, section: u8, template: u64) -> String {
     format!("{entry}: accepted {section}.{template}")
 }
 
-/// The kinds above, the total's refusals at their limits, each width of a row and each template of a section.
+/// The kinds above, the total's refusals at their limits, each width of a row, each template of a section and those of messages.
 fn every_kind() -> Vec<String> {
     let named = KINDS.iter().map(|kind| kind.to_string());
     let read = every_template().map(|(section, template)| template_kind("read", section, template));
@@ -183,6 +190,7 @@ fn every_kind() -> Vec<String> {
         .chain((0..=32).map(width_kind))
         .chain(read)
         .chain(shown)
+        .chain(messages::every_kind())
         .collect()
 }
 
