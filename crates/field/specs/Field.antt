@@ -6,7 +6,7 @@ use mathlib.Core.Bool.{not}
 use lib.Dec.{eqb}
 use Rattle.octets.specs.Octets.{beAt}
 use Rattle.layout.specs.Fields.{Value}
-use Rattle.layout.specs.Outcomes.{Outcome, refused, read, reason, firstOf, noRefusal}
+use Rattle.layout.specs.Outcomes.{Outcome, refused, read, andThen, reason, firstOf, refusal, noRefusal}
 use Rattle.identification.specs.Section1.{outcome₁, valuesIn as valuesIn₁}
 use Rattle.grid.specs.Blocks.{valuesIn as valuesIn₃}
 use Rattle.grid.specs.Section3.{outcome₃}
@@ -46,6 +46,23 @@ fieldOutcome s1 s3 s4 s5 s7 =
     (λ one. onward (outcome₃ s3)
     (λ three. onward (outcome₄ s4)
     (λ four. packedOutcome (pointsAt s3) one three four s5 s7)))
+
+-- ---- a part of a field
+
+-- what section 5 of a field with so many points says, unless it is refused, by 14 too, or section 7 is
+unfoldable pub packingOutcome : ℕ → List ℕ → List ℕ → Outcome
+packingOutcome points s5 s7 =
+    andThen (outcome₅ s5)
+    (andThen (firstOf 5 (reason 14 (not (eqb (valuesAt s5) points)) ∷ []) (outcome₇ (valuesAt s5) (bitsAt s5) s7)) (outcome₅ s5))
+
+-- sections 4, 5 and 7 of a field with so many points, whose sections 1 and 3 are read
+unfoldable pub laterOutcome : ℕ → List ℕ → List ℕ → List ℕ → Outcome
+laterOutcome points s4 s5 s7 = andThen (outcome₄ s4) (packingOutcome points s5 s7)
+
+-- the refusal that a field's outcome is; of none, zeros
+abbrev pub fieldRefusal : FieldOutcome → Refusal
+fieldRefusal (refusedField number section place) = refusal number section place
+fieldRefusal (readField one three four five) = noRefusal
 
 -- ---- what a program's answer says
 

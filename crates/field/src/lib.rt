@@ -1,9 +1,8 @@
 // A whole field: five lent sections in the order 1, 3, 4, 5, 7.
 ghost use mathlib.Core.Path.{_≡_};
-ghost use Rattle.identification.specs.Section1.{valuesIn as valuesIn₁};
-ghost use Rattle.grid.specs.Blocks.{valuesIn as valuesIn₃};
-ghost use Rattle.product.specs.Blocks.{valuesIn as valuesIn₄};
-ghost use Rattle.field.specs.Field.{fieldOutcome, packedOutcome, told, refusalIn};
+ghost use Rattle.layout.specs.Outcomes.{refusalOf};
+ghost use Rattle.packing.specs.Section5.{told₅};
+ghost use Rattle.field.specs.Field.{fieldOutcome, packingOutcome, laterOutcome, told, refusalIn};
 use grid::Grid;
 use identification::Identification;
 use layout::Refusal;
@@ -45,29 +44,9 @@ pub fn read(
     let product::Answer::Read(product) = four else {
         return Answer::Refused(product::refusal_of(four));
     };
-    read_packed(identification, grid, product, section5, section7)
-}
-
-// The rest of the reading: section 5, N against section 3's points, section 7.
-fn read_packed(
-    identification: Identification,
-    grid: Grid,
-    product: Product,
-    section5: &[u8],
-    section7: &[u8],
-) -> Answer
-    ensures { λ r. ⌜ told r ≡ packedOutcome (grid .points) (valuesIn₁ identification) (valuesIn₃ grid) (valuesIn₄ product) (now (section5 .entry)) (now (section7 .entry)) ⌝ }
-{
-    let five = packing::read(section5);
+    let five = read_packing(grid.points, section5, section7);
     let packing::Answer::Read(packing) = five else {
         return Answer::Refused(packing::refusal_of(five));
-    };
-    if packing.values != grid.points {
-        return Answer::Refused(Refusal::of(14, 5));
-    }
-    let seven = packing::read_data(section7, packing.values, packing.bits);
-    let packing::DataAnswer::Read(_) = seven else {
-        return Answer::Refused(packing::data_refusal_of(seven));
     };
     Answer::Read(WholeField {
         identification,
@@ -75,6 +54,40 @@ fn read_packed(
         product,
         packing,
     })
+}
+
+// What refuses sections 4, 5 and 7 of a field whose sections 1 and 3 are read, or none: a field may have the sections 1 and 3 of the one
+// before it, which need no second reading. `points` is what octets 7-10 of section 3 say.
+pub fn later_refusal(points: u32, section4: &[u8], section5: &[u8], section7: &[u8]) -> Refusal
+    ensures { λ r. ⌜ r ≡ refusalOf (laterOutcome points (now (section4 .entry)) (now (section5 .entry)) (now (section7 .entry))) ⌝ }
+{
+    let four = product::read(section4);
+    let product::Answer::Read(_) = four else {
+        return product::refusal_of(four);
+    };
+    let five = read_packing(points, section5, section7);
+    let packing::Answer::Read(_) = five else {
+        return packing::refusal_of(five);
+    };
+    Refusal::none()
+}
+
+// The rest of the reading: section 5, N against section 3's points, section 7.
+fn read_packing(points: u32, section5: &[u8], section7: &[u8]) -> packing::Answer
+    ensures { λ r. ⌜ told₅ r ≡ packingOutcome points (now (section5 .entry)) (now (section7 .entry)) ⌝ }
+{
+    let five = packing::read(section5);
+    let packing::Answer::Read(packing) = five else {
+        return five;
+    };
+    if packing.values != points {
+        return packing::Answer::Refused(Refusal::of(14, 5));
+    }
+    let seven = packing::read_data(section7, packing.values, packing.bits);
+    let packing::DataAnswer::Read(_) = seven else {
+        return packing::Answer::Refused(packing::data_refusal_of(seven));
+    };
+    five
 }
 
 // The refusal of an answer that is one, for a caller to hand on.

@@ -27,12 +27,12 @@ unfolding orRefused
 both (refusedField number section place) c a = absurd (omega arith)
 both (readField one three four five) c a = (tt, a)
 
-taken-on : (o : FieldOutcome) (c : Cut) → AcceptedField o → orRefused o c ≡ c
+pub taken-on : (o : FieldOutcome) (c : Cut) → AcceptedField o → orRefused o c ≡ c
 unfolding orRefused
 taken-on (refusedField number section place) c a = absurd a
 taken-on (readField one three four five) c a = refl
 
-follows-five : (x : Five) → AcceptedField (outcomeOf x) → Follows x
+pub follows-five : (x : Five) → AcceptedField (outcomeOf x) → Follows x
 unfolding outcomeOf
 follows-five x a = field-exactly-when (x .one) (x .three) (x .four) (x .five) (x .seven) .0 a
 

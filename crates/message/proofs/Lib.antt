@@ -1,6 +1,5 @@
 pub mod Clear
 pub mod Walks
-pub mod Reading
 pub mod Steps
 pub mod Sizes
 pub mod Parsing
@@ -8,6 +7,7 @@ pub mod Grouped
 pub mod Frames
 pub mod Shown
 pub mod AcceptedExactlyWhen
+pub mod Reading
 pub mod CoveredOnce
 pub mod Unambiguous
 pub mod Marks

@@ -1,30 +1,90 @@
--- Reading the fields that were found, from the first to the last.
+-- Reading the fields that were found, from the first to the last; what the field before has too is not read again.
 -- Assumes nothing.
 use Prim.Native.Nat.{ℕ, suc, _+_, _-_, _≤_, _<_}
 use native.Mathlib.Omega.{arith}
 use native.Mathlib.Numerals.{add-one}
-use mathlib.Core.Path.{_≡_, refl, ap, sym, _∙_}
+use borrow.Author.Tests.{ne-eqb}
+use mathlib.Core.Path.{_≡_, refl, ap, sym, subst, _∙_}
 use mathlib.Core.List.{List, [], _∷_, map}
 use lib.ListN.{length, take, drop, getD, drop-of-length-le}
 use lib.Seq.{drop-cons, take-nil}
+use Rattle.layout.specs.Fields.{Value}
+use Rattle.layout.specs.Outcomes.{Outcome, refused, read, andThen, refusalOf}
+use Rattle.layout.specs.Spans.{octetsIn}
+use Rattle.layout.specs.declared.Span.{Span}
 use Rattle.layout.specs.declared.Refusal.{Refusal}
-use Rattle.field.specs.Field.{FieldOutcome, told}
-use Rattle.field.specs.declared.WholeField.{WholeField}
-use Rattle.field.specs.declared.Answer.{Answer}
-use Rattle.field.specs.declared.Answer.the-variants.{Read, Refused}
+use Rattle.layout.proofs.Refusals.{Proper, proper}
+use Rattle.identification.specs.Section1.{outcome₁}
+use Rattle.identification.specs.Refused.{table₁}
+use Rattle.identification.proofs.RefusalNumbers.{refuses₁}
+use Rattle.identification.proofs.AcceptedExactlyWhen.{accepted-exactly-when as exactly₁}
+use Rattle.grid.specs.Section3.{outcome₃}
+use Rattle.grid.specs.Refused.{table₃}
+use Rattle.grid.proofs.RefusalNumbers.{refuses₃}
+use Rattle.grid.proofs.AcceptedExactlyWhen.{accepted-exactly-when as exactly₃}
+use Rattle.field.specs.Field.{FieldOutcome, refusedField, readField, pointsAt, laterOutcome, fieldRefusal}
+use Rattle.field.specs.Accepted.{AcceptedField}
+use Rattle.field.specs.Refused.{fieldTable}
+use Rattle.field.proofs.Later.{first-refusal}
+use Rattle.field.proofs.RefusalNumbers.{RefusesField, refuses-field}
 use Rattle.message.specs.declared.Sections.{Sections}
 use Rattle.message.specs.declared.Cut.{Cut}
-use Rattle.message.specs.Walk.{refusedWith}
+use Rattle.message.specs.Walk.{refusedWith, unlessRefused}
 use Rattle.message.specs.Grammar.{Five}
-use Rattle.message.specs.Messages.{shownIn, outcomeOf, orRefused, fieldsRead}
+use Rattle.message.specs.Messages.{shownIn, outcomeOf, openingOutcome, WasRead, OpeningRead, orRefused, fieldsRead}
+use Rattle.message.proofs.AcceptedExactlyWhen.{taken-on, follows-five}
 
-pub read-on : (a : Answer) (o : FieldOutcome) (x : WholeField) (c : Cut) → told a ≡ o → a ≡ Read x → orRefused o c ≡ c
-unfolding told orRefused
-read-on a o x c p e = ap (λ (z : FieldOutcome). orRefused z c) (sym p ∙ ap told e)
+-- a section that stands where one stands that was read
+pub again : (outcome : List ℕ → Outcome) (m : List ℕ) (before x : Span) → WasRead outcome m before → (before ≡ x) × (0 < before .length) → (vs : List Value) × (outcome (octetsIn x m) ≡ read vs)
+again outcome m before x was same = subst (λ (y : Span). (vs : List Value) × (outcome (octetsIn y m) ≡ read vs)) (same .0) (was (same .1))
 
-pub read-stop : (a : Answer) (o : FieldOutcome) (x : Refusal) (c : Cut) → told a ≡ o → a ≡ Refused x → orRefused o c ≡ refusedWith x
-unfolding told orRefused
-read-stop a o x c p e = ap (λ (z : FieldOutcome). orRefused z c) (sym p ∙ ap told e)
+-- ---- sections 1 and 3, and then the others
+
+stopped : (one three later : Outcome) → (refusalOf (andThen one three) .number ≡ 0 → ⊥) → refusalOf (andThen one three) ≡ refusalOf (andThen one (andThen three later))
+unfolding andThen
+stopped (refused number section place) three later h = refl
+stopped (read vs) (refused number section place) later h = refl
+stopped (read vs) (read ws) later h = absurd (h refl)
+
+passed : (one three later : Outcome) → Proper one → Proper three → refusalOf (andThen one three) .number ≡ 0 → refusalOf later ≡ refusalOf (andThen one (andThen three later))
+unfolding andThen
+passed (refused number section place) three later p q e = absurd (p .0 e)
+passed (read vs) (refused number section place) later p q e = absurd (q .0 e)
+passed (read vs) (read ws) later p q e = refl
+
+module _ (x : Five) where
+  pub opening-refused : (refusalOf (openingOutcome x) .number ≡ 0 → ⊥) → refusalOf (openingOutcome x) ≡ fieldRefusal (outcomeOf x)
+  unfolding outcomeOf
+  opening-refused h = stopped (outcome₁ (x .one)) (outcome₃ (x .three)) _ h ∙ sym (first-refusal (x .one) (x .three) (x .four) (x .five) (x .seven))
+
+  pub opening-passed : refusalOf (openingOutcome x) .number ≡ 0 → refusalOf (laterOutcome (pointsAt (x .three)) (x .four) (x .five) (x .seven)) ≡ fieldRefusal (outcomeOf x)
+  unfolding outcomeOf
+  opening-passed e =
+      passed (outcome₁ (x .one)) (outcome₃ (x .three)) _ (proper table₁ (outcome₁ (x .one)) refl (refuses₁ (x .one))) (proper table₃ (outcome₃ (x .three)) refl (refuses₃ (x .three))) e
+      ∙ sym (first-refusal (x .one) (x .three) (x .four) (x .five) (x .seven))
+
+-- ---- one field
+
+accepted : (o : FieldOutcome) → RefusesField o → fieldRefusal o .number ≡ 0 → AcceptedField o
+accepted (refusedField number section place) r e = absurd (proper fieldTable (refused number section place) refl r .0 e)
+accepted (readField one three four five) r e = tt
+
+accepted-five : (x : Five) → fieldRefusal (outcomeOf x) .number ≡ 0 → AcceptedField (outcomeOf x)
+unfolding outcomeOf
+accepted-five x e = accepted (outcomeOf x) (refuses-field (x .one) (x .three) (x .four) (x .five) (x .seven)) e
+
+refused-field : (o : FieldOutcome) (c : Cut) → (fieldRefusal o .number ≡ 0 → ⊥) → refusedWith (fieldRefusal o) ≡ orRefused o c
+unfolding orRefused
+refused-field (refusedField number section place) c h = refl
+refused-field (readField one three four five) c h = absurd (h refl)
+
+-- of a field that is read, sections 1 and 3 were
+pub opening-read : (m : List ℕ) (f : Sections) → fieldRefusal (outcomeOf (shownIn m f)) .number ≡ 0 → OpeningRead m f
+opening-read m f e =
+    let follows = follows-five (shownIn m f) (accepted-five (shownIn m f) e) in
+    record { one = λ h. exactly₁ _ .1 (follows .identified); three = λ h. exactly₃ _ .1 (follows .gridded) }
+
+-- ---- from field to field
 
 -- the fields from the k-th on
 abbrev pub fieldsFrom : Cut → ℕ → List Sections
@@ -45,11 +105,16 @@ one-left m c k d h l =
     rw (more, drop-cons (c .fields) k d l, add-one) refl
 
 -- the k-th field is read, and then those behind it; or it is refused
-module _ (m : List ℕ) (c : Cut) (k : ℕ) (d : Sections) (h : k < c .count) (l : k < length (c .fields)) (a : Answer) (p : told a ≡ outcomeOf (shownIn m (getD (c .fields) k d))) where
-  pub next-read : (x : WholeField) → a ≡ Read x → fieldsRead c (shownFrom m c (k + 1)) ≡ fieldsRead c (shownFrom m c k)
+module _ (m : List ℕ) (c : Cut) (k : ℕ) (d : Sections) (h : k < c .count) (l : k < length (c .fields)) (x : Refusal) (p : x ≡ fieldRefusal (outcomeOf (shownIn m (getD (c .fields) k d)))) where
+  pub next-read : x .number ≡ 0 → fieldsRead c (shownFrom m c (k + 1)) ≡ fieldsRead c (shownFrom m c k)
   unfolding fieldsRead
-  next-read x e = sym (read-on a _ x (fieldsRead c (shownFrom m c (k + 1))) p e) ∙ sym (ap (fieldsRead c) (one-left m c k d h l))
+  next-read e =
+      sym (taken-on _ (fieldsRead c (shownFrom m c (k + 1))) (accepted-five _ (ap (λ (y : Refusal). y .number) (sym p) ∙ e))) ∙ sym (ap (fieldsRead c) (one-left m c k d h l))
 
-  pub next-refused : (x : Refusal) → a ≡ Refused x → refusedWith x ≡ fieldsRead c (shownFrom m c k)
+  pub next-refused : (x .number ≡ 0 → ⊥) → unlessRefused x c ≡ fieldsRead c (shownFrom m c k)
   unfolding fieldsRead
-  next-refused x e = sym (read-stop a _ x (fieldsRead c (shownFrom m c (k + 1))) p e) ∙ sym (ap (fieldsRead c) (one-left m c k d h l))
+  next-refused n =
+      rw (ne-eqb _ _ n)
+      (ap refusedWith p
+      ∙ refused-field _ (fieldsRead c (shownFrom m c (k + 1))) (λ e. n (ap (λ (y : Refusal). y .number) p ∙ e))
+      ∙ sym (ap (fieldsRead c) (one-left m c k d h l)))

@@ -1,17 +1,21 @@
 -- Reading a message: 2, 22, then 23 to 25 at the first place met, then the refusal of the first field refused.
 -- Assumes nothing.
-use Prim.Native.Nat.{ℕ, _+_, _-_, _≤_}
+use Prim.Native.Nat.{ℕ, _+_, _-_, _≤_, _<_}
+use mathlib.Core.Path.{_≡_}
 use mathlib.Core.List.{List, [], _∷_, map}
 use mathlib.Core.Bool.{Bool, not, cond}
 use lib.Dec.{ltb, eqb}
 use lib.ListN.{length, take, drop, getD}
 use Rattle.octets.specs.Octets.{beAt}
-use Rattle.layout.specs.Outcomes.{Reason, reason, firstRefusal, refusal}
+use Rattle.layout.specs.Fields.{Value}
+use Rattle.layout.specs.Outcomes.{Outcome, read, andThen, Reason, reason, firstRefusal, refusal}
 use Rattle.layout.specs.Spans.{nowhere, octetsIn}
 use Rattle.layout.specs.declared.Span.{Span}
 use Rattle.layout.specs.declared.Refusal.{Refusal}
 use Rattle.cutting.specs.Cuts.{Cut as Pieces, cutOf}
 use Rattle.cutting.specs.Sections.{sectionStep}
+use Rattle.identification.specs.Section1.{outcome₁}
+use Rattle.grid.specs.Section3.{outcome₃}
 use Rattle.field.specs.Field.{FieldOutcome, refusedField, readField, fieldOutcome}
 use Rattle.message.specs.declared.Sections.{Sections}
 use Rattle.message.specs.declared.Cut.{Cut}
@@ -64,6 +68,10 @@ shownIn m f =
 unfoldable pub outcomeOf : Five → FieldOutcome
 outcomeOf x = fieldOutcome (x .one) (x .three) (x .four) (x .five) (x .seven)
 
+-- sections 1 and 3 of a field
+abbrev pub openingOutcome : Five → Outcome
+openingOutcome x = andThen (outcome₁ (x .one)) (outcome₃ (x .three))
+
 unfoldable pub orRefused : FieldOutcome → Cut → Cut
 orRefused (refusedField number section place) c = refusedWith (refusal number section place)
 orRefused (readField one three four five) c = c
@@ -72,6 +80,15 @@ orRefused (readField one three four five) c = c
 unfoldable pub fieldsRead : Cut → List Five → Cut
 fieldsRead c [] = c
 fieldsRead c (x ∷ xs) = orRefused (outcomeOf x) (fieldsRead c xs)
+
+-- a section that stands there was read; one that stands nowhere need not be
+abbrev pub WasRead : (List ℕ → Outcome) → List ℕ → Span → Type 0
+WasRead outcome m x = 0 < x .length → (vs : List Value) × (outcome (octetsIn x m) ≡ read vs)
+
+-- sections 1 and 3 of a field were
+pub record OpeningRead (m : List ℕ) (f : Sections) : Type 0 where
+  pub one : WasRead outcome₁ m (f .one)
+  pub three : WasRead outcome₃ m (f .three)
 
 -- the fields that are found
 abbrev pub foundIn : List ℕ → Cut → List Five

@@ -1,13 +1,15 @@
 // Whole messages: one walk over the sections of a lent message, and its fields' sections as parts of it. Nothing is copied.
 ghost use mathlib.Core.Path.{_≡_};
+ghost use mathlib.Core.Bool.{true};
+ghost use Prim.Native.Nat.{_<_};
 ghost use lib.ListN.{drop};
 ghost use Rattle.cutting.specs.Cuts.{cutOf};
 ghost use Rattle.cutting.specs.Sections.{sectionStep};
 ghost use Rattle.layout.specs.Fields.{between};
-ghost use Rattle.field.specs.Field.{told};
-ghost use Rattle.message.specs.Walk.{noSections, inForce, refusedWith, mayFollow, otherSix, sectionRefusal, endRefusal, judged, startWalk};
-ghost use Rattle.message.specs.Messages.{startRefusal, cutMessage, shownIn, outcomeOf, foundIn, fieldsRead, readMessage, fieldOf, spanOf, sectionIn};
-use field::Answer;
+ghost use Rattle.layout.specs.Outcomes.{refusalOf};
+ghost use Rattle.field.specs.Field.{fieldRefusal};
+ghost use Rattle.message.specs.Walk.{noSections, inForce, refusedWith, unlessRefused, mayFollow, otherSix, sectionRefusal, endRefusal, judged, startWalk};
+ghost use Rattle.message.specs.Messages.{startRefusal, cutMessage, shownIn, outcomeOf, openingOutcome, OpeningRead, foundIn, fieldsRead, readMessage, fieldOf, spanOf, sectionIn};
 use layout::Refusal;
 use layout::Span;
 
@@ -37,7 +39,11 @@ pub fn read(message: &[u8]) -> Cut
     ensures { λ r. ⌜ r ≡ readMessage (now (message .entry)) ⌝ }
 {
     let cut = cut_frame(message);
-    read_fields(message, cut)
+    let refusal = fields_refusal(message, cut);
+    if refusal.number != 0 {
+        return refused_with(refusal);
+    }
+    cut
 }
 
 // A section of the k-th field, from 0: those very octets of the message. No octets where the message is refused, where it has no such
@@ -76,35 +82,77 @@ pub fn span_of(sections: Sections, section: u8) -> Span
     }
 }
 
-// Reads the fields that were found, in order.
-fn read_fields(message: &[u8], cut: Cut) -> Cut
-    ensures { λ r. ⌜ r ≡ fieldsRead cut (foundIn (now (message .entry)) cut) ⌝ }
+// Reads the fields that were found, in order, up to the first that is refused.
+fn fields_refusal(message: &[u8], cut: Cut) -> Refusal
+    ensures { λ r. ⌜ unlessRefused r cut ≡ fieldsRead cut (foundIn (now (message .entry)) cut) ⌝ }
 {
+    let mut before = no_sections();
     let mut k: usize = 0;
     while k < 16 {
         if cut.count <= k {
-            return cut;
+            return Refusal::none();
         }
         let sections = cut.fields[k];
-        let answer = read_field(message, sections);
-        let Answer::Read(_) = answer else {
-            return refused_with(field::refusal_of(answer));
-        };
+        let refusal = field_refusal(message, before, sections);
+        if refusal.number != 0 {
+            return refusal;
+        }
+        before = sections;
         k += 1;
     }
-    cut
+    Refusal::none()
 }
 
-// Reads one field, whose sections are parts of the message.
-fn read_field(message: &[u8], sections: Sections) -> Answer
-    ensures { λ r. ⌜ told r ≡ outcomeOf (shownIn (now (message .entry)) sections) ⌝ }
+// Reads one field, whose sections are parts of the message, behind the field before.
+fn field_refusal(message: &[u8], before: Sections, sections: Sections) -> Refusal
+    requires { ⌜ OpeningRead (now message) before ⌝ }
+    ensures { λ r. ⌜ r ≡ fieldRefusal (outcomeOf (shownIn (now (message .entry)) sections)) ⌝ }
 {
-    let section1 = octets::part_after(message, sections.one.before, sections.one.length);
+    let refusal = opening_refusal(message, before, sections);
+    if refusal.number != 0 {
+        return refusal;
+    }
     let section3 = octets::part_after(message, sections.three.before, sections.three.length);
     let section4 = octets::part_after(message, sections.four.before, sections.four.length);
     let section5 = octets::part_after(message, sections.five.before, sections.five.length);
     let section7 = octets::part_after(message, sections.seven.before, sections.seven.length);
-    field::read(section1, section3, section4, section5, section7)
+    field::later_refusal(octets::u32_at(section3, 7), section4, section5, section7)
+}
+
+// Sections 1 and 3 of a field: one that the field before has too was read there, and is not read again.
+fn opening_refusal(message: &[u8], before: Sections, sections: Sections) -> Refusal
+    requires { ⌜ OpeningRead (now message) before ⌝ }
+    ensures { λ r. ⌜ r ≡ refusalOf (openingOutcome (shownIn (now (message .entry)) sections)) ⌝ }
+{
+    if !stands_there(before.one, sections.one) {
+        let section1 = octets::part_after(message, sections.one.before, sections.one.length);
+        let one = identification::read(section1);
+        let identification::Answer::Read(_) = one else {
+            return identification::refusal_of(one);
+        };
+    }
+    if stands_there(before.three, sections.three) {
+        return Refusal::none();
+    }
+    let section3 = octets::part_after(message, sections.three.before, sections.three.length);
+    let three = grid::read(section3);
+    let grid::Answer::Read(_) = three else {
+        return grid::refusal_of(three);
+    };
+    Refusal::none()
+}
+
+// Whether a section is the one that stands at `before`; where that is nowhere, none does.
+fn stands_there(before: Span, section: Span) -> bool
+    ensures { λ r. ⌜ (r ≡ true → (before ≡ section) × (0 < before .length)) ⌝ }
+{
+    if before.length == 0 {
+        return false;
+    }
+    if before.before != section.before {
+        return false;
+    }
+    before.length == section.length
 }
 
 // The frame: section 0, the walk over the sections, the last four octets.

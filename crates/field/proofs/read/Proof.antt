@@ -1,10 +1,15 @@
 use Rattle.octets.proofs.Free.{free}
 use Rattle.layout.proofs.Outcomes.{answer-is}
-use Rattle.identification.specs.Section1.{told as told₁}
+use Rattle.identification.specs.Section1.{told as told₁, valuesIn as valuesIn₁}
+use Rattle.grid.specs.Blocks.{valuesIn as valuesIn₃}
 use Rattle.grid.specs.Section3.{told as told₃}
+use Rattle.product.specs.Blocks.{valuesIn as valuesIn₄}
 use Rattle.product.specs.Section4.{told as told₄}
-use Rattle.field.specs.Field.{onward, fieldOutcome, told}
-use Rattle.field.proofs.Points.{points-are}
+use Rattle.packing.specs.Section5.{told₅}
+use Rattle.field.specs.Field.{readField, onward, fieldOutcome, told}
+use Rattle.field.proofs.Later.{rest-onward}
+use mathlib.Core.Path.{_≡_}
+use denote.Ref.{now}
 use borrow.Author.Needs.{needs}
 use Rattle.field.proofs.read.Statement.{statement}
 use Rattle.field.proofs.read.Tie as tie
@@ -43,20 +48,31 @@ returns-3 c =
       refused,
     )
 
-returns-4 : tie.Need-returns-4
-unfolding told fieldOutcome onward told₁ told₃ told₄
-returns-4 c =
+-- what is left to say once sections 1, 3 and 4 are read
+rest : (c : tie.After-read-packing) → let four = c .before .before in let three = four .before .before .before .before in let one = three .before .before .before .before in
+    let a = one .before .before .before .before .before .before .before .before .args in
+    fieldOutcome (now (a .section1)) (now (a .section3)) (now (a .section4)) (now (a .section5)) (now (a .section7))
+    ≡ onward (told₅ (c .read-packing .result)) (readField (valuesIn₁ (one .one .given .0 .0)) (valuesIn₃ (three .three .given .0 .0)) (valuesIn₄ (four .four .given .0 .0)))
+unfolding told₁ told₃ told₄
+rest c =
     let four = c .before .before in
     let three = four .before .before .before .before in
     let one = three .before .before .before .before in
-    let grid = answer-is told₃ (three .before .before .read2 .ensures) (three .three .given .1) in
-    simp (
-      answer-is told₁ (one .before .before .read .ensures) (one .one .given .1),
-      grid,
-      answer-is told₄ (four .before .before .read3 .ensures) (four .four .given .1),
-      ← points-are _ _ grid,
-    )
-    (c .read-packed .ensures)
+    rw (c .read-packing .ensures)
+    (rest-onward _ _ _ _ _ _ (three .three .given .0 .0) _
+    (answer-is told₁ (one .before .before .read .ensures) (one .one .given .1))
+    (answer-is told₃ (three .before .before .read2 .ensures) (three .three .given .1))
+    (answer-is told₄ (four .before .before .read3 .ensures) (four .four .given .1)))
+
+returns-4 : tie.Need-returns-4
+unfolding told onward told₅
+returns-4 c =
+    let refused = c .before .enum-told4 .given .1 in
+    simp (rest (c .before .before .before), c .refusal-of4 .ensures, refused)
+
+returns-5 : tie.Need-returns-5
+unfolding told onward told₅
+returns-5 c = simp (rest (c .before .before .before), c .before .five .given .1)
 
 pub read-spec : {M : Type 1} → statement M
 read-spec =
@@ -78,4 +94,8 @@ read-spec =
     free
     returns-3
     free
-    returns-4)
+    (λ c. search needs)
+    (λ c. search needs)
+    free
+    returns-4
+    returns-5)
