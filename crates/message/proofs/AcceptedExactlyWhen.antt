@@ -90,15 +90,15 @@ unfolding placesOf
 as-many [] at one three = refl
 as-many (g ∷ gs) at one three = ap suc (as-many gs _ one _)
 
-some : (gs : List Group) → FirstComplete gs → 1 ≤ length gs
-some [] f = absurd f
-some (g ∷ gs) f = omega arith
+pub some-group : (gs : List Group) → FirstComplete gs → 1 ≤ length gs
+some-group [] f = absurd f
+some-group (g ∷ gs) f = omega arith
 
 pub count-is : (m : List ℕ) (x : FollowsMessage m) → readMessage m .count ≡ length (x .parts .groups)
 count-is m x = ap (λ (c : Cut). c .count) (answer m x) ∙ as-many (x .parts .groups) _ _ _
 
 accepts : (m : List ℕ) → FollowsMessage m → Accepted (readMessage m)
-accepts m x = omega (arith, count-is m x, some (x .parts .groups) (x .frame .first))
+accepts m x = omega (arith, count-is m x, some-group (x .parts .groups) (x .frame .first))
 
 pub accepted-exactly-when : (m : List ℕ) → Accepted (readMessage m) ↔ FollowsMessage m
 accepted-exactly-when m = (follows m, accepts m)

@@ -1,17 +1,15 @@
 -- What it says of a section, of the last four octets and of a message's start that they are not refused, and back.
 -- Assumes nothing.
-use Prim.Native.Nat.{ℕ, _≤_, _<_}
+use Prim.Native.Nat.{ℕ}
 use native.Mathlib.Omega.{arith}
 use mathlib.Core.Path.{_≡_, refl, ap, _∙_}
-use mathlib.Core.Bool.{Bool, true, false, not}
+use mathlib.Core.Bool.{Bool, true, not}
 use mathlib.Core.List.{List, []}
-use lib.ListN.{length}
 use borrow.Author.Tests.{ltb-false, le-ltb, not-false}
-use Rattle.octets.specs.Octets.{beAt}
 use Rattle.layout.specs.Outcomes.{Reason, read, refusalOf, firstRefusal}
 use Rattle.layout.proofs.Outcomes.{NoneHold, Numbered, zero-none, refusal-first, none-last}
 use Rattle.layout.proofs.Ranges.{test-same, same-test}
-use Rattle.message.specs.Walk.{numberIn, mayFollow, otherSix, sectionReasons, sectionRefusal, endReasons, endRefusal}
+use Rattle.message.specs.Walk.{sectionReasons, sectionRefusal, endReasons, endRefusal}
 use Rattle.layout.specs.declared.Refusal.{Refusal}
 use Rattle.message.specs.Messages.{startReasons, startRefusal}
 use Rattle.message.specs.FirstPlace.{Starts, Clear}

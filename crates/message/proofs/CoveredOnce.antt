@@ -1,6 +1,6 @@
 -- Section 0, all sections (2 and 6 too) and the last four octets cover every octet of a message once.
 -- Assumes nothing.
-use Prim.Native.Nat.{ℕ, zero, suc, _+_, _≤_, _<_}
+use Prim.Native.Nat.{ℕ, suc, _+_, _≤_, _<_}
 use native.Mathlib.Omega.{arith}
 use mathlib.Core.Path.{_≡_, refl, ap, sym, _∙_}
 use mathlib.Core.Bool.{Bool, true, false, cond, _&&_}
@@ -11,9 +11,9 @@ use borrow.Author.Tests.{le-leb, lt-leb, ltb-true, ltb-false}
 use Rattle.cutting.specs.Cuts.{strung}
 use Rattle.layout.specs.Spans.{octetsIn}
 use Rattle.layout.specs.declared.Span.{Span}
+use Rattle.message.specs.Walk.{spanAt}
 use Rattle.message.specs.Grammar.{Is, Opening, atTwo, atThree, atFour, Opens, Group, opened, allSections, oneBehindTheOther, IsGroup, AreGroups, Parts, behindZero, IsFrame, FollowsMessage}
 use Rattle.message.specs.Messages.{readMessage}
-use Rattle.message.specs.Places.{spanAt}
 use Rattle.message.specs.Covering.{spansFrom, allParts, allSpans, holds, timesIn, sevensIn}
 use Rattle.message.proofs.Shown.{Stands, shown-first, stands-on}
 use Rattle.message.proofs.AcceptedExactlyWhen.{count-is}

@@ -22,7 +22,7 @@ use Rattle.message.specs.declared.Cut.{Cut}
 use Rattle.message.specs.Walk.{Walk, numberIn, mayFollow, otherSix, sectionRefusal, endRefusal, withSection, taken, startWalk, unlessRefused, judgedIn}
 use Rattle.message.specs.Grammar.{oneBehindTheOther}
 use Rattle.message.specs.Messages.{startReasons, startRefusal, endsRight, sectionsIn, cutMessage, readMessage}
-use Rattle.message.specs.FirstPlace.{Starts, Passed, Reached, NoSection, Begins, refusedBy}
+use Rattle.message.specs.FirstPlace.{Starts, Passed, Reached, NoSection, Begins, frameRefused}
 use Rattle.message.proofs.Clear.{unrefused, starts, started}
 use Rattle.message.proofs.Sizes.{AllSized, each-sized}
 use Rattle.message.proofs.Steps.{count-after}
@@ -31,15 +31,15 @@ use Rattle.message.proofs.Frames.{last-4, middle, last-four}
 use Rattle.message.proofs.FrameAndFields.{frame-first}
 
 -- what is refused by the frame is refused
-by-frame : (m : List ℕ) (number : ℕ) → cutMessage m ≡ refusedBy number → readMessage m ≡ refusedBy number
+by-frame : (m : List ℕ) (number : ℕ) → cutMessage m ≡ frameRefused number → readMessage m ≡ frameRefused number
 by-frame m number e = frame-first m (ap (λ (c : Cut). c .count) e) ∙ e
 
-unless-refused : (x : Refusal) (c : Cut) (number : ℕ) → x ≡ refusal number 0 0 → eqb number 0 ≡ false → unlessRefused x c ≡ refusedBy number
+unless-refused : (x : Refusal) (c : Cut) (number : ℕ) → x ≡ refusal number 0 0 → eqb number 0 ≡ false → unlessRefused x c ≡ frameRefused number
 unless-refused x c number e some = ap (λ (y : Refusal). unlessRefused y c) e ∙ rw some refl
 
 -- ---- the start
 
-pub too-long : (m : List ℕ) → 65536 < length m → readMessage m ≡ refusedBy 2
+pub too-long : (m : List ℕ) → 65536 < length m → readMessage m ≡ frameRefused 2
 unfolding cutMessage startRefusal firstRefusal
 too-long m h = by-frame m 2 (unless-refused (startRefusal m) _ 2 (rw (lt-ltb 65536 (length m) h) refl) refl)
 
@@ -63,7 +63,7 @@ start-22 m h some =
     let first : startRefusal m ≡ others = rw short refl in
     first ∙ one-number 22 (drop 1 (startReasons m)) (refl, (refl, (refl, (refl, tt)))) (λ e. some (ap (λ (x : Refusal). x .number) first ∙ e))
 
-pub wrong-start : (m : List ℕ) → length m ≤ 65536 → (Starts m → ⊥) → readMessage m ≡ refusedBy 22
+pub wrong-start : (m : List ℕ) → length m ≤ 65536 → (Starts m → ⊥) → readMessage m ≡ frameRefused 22
 unfolding cutMessage
 wrong-start m h wrong = by-frame m 22 (unless-refused (startRefusal m) _ 22 (start-22 m h (λ e. wrong (starts m e))) refl)
 
@@ -120,15 +120,15 @@ module _ (m : List ℕ) (before : List (List ℕ)) (last count : ℕ) (left end 
   judged-so c e =
       rw (eq-eqb _ 0 (started m (r .starts)), cut-so, e) (came c .same)
 
-  refused-so : (c : Pieces (List ℕ)) (number : ℕ) → cutOf sectionStep left ≡ c → judgedIn (c .whole) (endsRight m) (came c .to) (came c .walk) (c .items) ≡ refusedBy number → readMessage m ≡ refusedBy number
+  refused-so : (c : Pieces (List ℕ)) (number : ℕ) → cutOf sectionStep left ≡ c → judgedIn (c .whole) (endsRight m) (came c .to) (came c .walk) (c .items) ≡ frameRefused number → readMessage m ≡ frameRefused number
   refused-so c number e f = by-frame m number (judged-so c e ∙ f)
 
-  pub no-section : 1 ≤ length left → NoSection left → readMessage m ≡ refusedBy 23
+  pub no-section : 1 ≤ length left → NoSection left → readMessage m ≡ frameRefused 23
   unfolding judgedIn
   no-section some none = refused-so (record { items = []; whole = false }) 23 (cut-stopped sectionStep sections-advance left some (no-step left none)) refl
 
   -- a section stands there that is refused with this number
-  at-section : (x : List ℕ) → Begins left x → (number : ℕ) → eqb number 0 ≡ false → sectionRefusal last count x ≡ refusal number 0 0 → readMessage m ≡ refusedBy number
+  at-section : (x : List ℕ) → Begins left x → (number : ℕ) → eqb number 0 ≡ false → sectionRefusal last count x ≡ refusal number 0 0 → readMessage m ≡ frameRefused number
   unfolding judgedIn
   at-section x b number some e =
       let s = x ++ b .behind in
@@ -138,31 +138,31 @@ module _ (m : List ℕ) (before : List (List ℕ)) (last count : ℕ) (left end 
       refused-so c number (ap (cutOf sectionStep) (b .is) ∙ cut-item sectionStep sections-advance s x (length x) (sized-spells x (b .sized) (b .behind)))
       (unless-refused _ _ number ((λ i. sectionRefusal (w .last-is i) (w .count-is i) x) ∙ e) some)
 
-  pub out-of-order : (x : List ℕ) → Begins left x → mayFollow last (numberIn x) ≡ false → readMessage m ≡ refusedBy 23
+  pub out-of-order : (x : List ℕ) → Begins left x → mayFollow last (numberIn x) ≡ false → readMessage m ≡ frameRefused 23
   unfolding sectionRefusal firstRefusal
   out-of-order x b order = at-section x b 23 refl (rw order refl)
 
-  pub another-six : (x : List ℕ) → Begins left x → mayFollow last (numberIn x) ≡ true → otherSix x ≡ true → readMessage m ≡ refusedBy 24
+  pub another-six : (x : List ℕ) → Begins left x → mayFollow last (numberIn x) ≡ true → otherSix x ≡ true → readMessage m ≡ frameRefused 24
   unfolding sectionRefusal firstRefusal
   another-six x b order six = at-section x b 24 refl (rw (order, six) refl)
 
-  pub after-the-16th : (x : List ℕ) → Begins left x → mayFollow last (numberIn x) ≡ true → otherSix x ≡ false → 16 ≤ count → readMessage m ≡ refusedBy 25
+  pub after-the-16th : (x : List ℕ) → Begins left x → mayFollow last (numberIn x) ≡ true → otherSix x ≡ false → 16 ≤ count → readMessage m ≡ frameRefused 25
   unfolding sectionRefusal firstRefusal
   after-the-16th x b order six many = at-section x b 25 refl (rw (order, six, lt-ltb 15 count (omega arith)) refl)
 
   -- no octet is left before the last four, and they are refused with this number
-  at-end : left ≡ [] → (number : ℕ) → eqb number 0 ≡ false → endRefusal last (endsRight m) ≡ refusal number 0 0 → readMessage m ≡ refusedBy number
+  at-end : left ≡ [] → (number : ℕ) → eqb number 0 ≡ false → endRefusal last (endsRight m) ≡ refusal number 0 0 → readMessage m ≡ frameRefused number
   unfolding judgedIn
   at-end none number some e =
       let c : Pieces (List ℕ) = record { items = []; whole = true } in
       refused-so c number (cut-end sectionStep sections-advance left (omega (arith, ap length none)))
       (unless-refused _ _ number (ap (λ (l : ℕ). endRefusal l (endsRight m)) (came c .last-is) ∙ e) some)
 
-  pub section-missing : left ≡ [] → (last ≡ 7 → ⊥) → readMessage m ≡ refusedBy 23
+  pub section-missing : left ≡ [] → (last ≡ 7 → ⊥) → readMessage m ≡ frameRefused 23
   unfolding endRefusal firstRefusal
   section-missing none other = at-end none 23 refl (rw (ne-eqb last 7 other) refl)
 
-  pub not-7777 : left ≡ [] → last ≡ 7 → (beAt end 1 4 ≡ 0x37373737 → ⊥) → readMessage m ≡ refusedBy 25
+  pub not-7777 : left ≡ [] → last ≡ 7 → (beAt end 1 4 ≡ 0x37373737 → ⊥) → readMessage m ≡ frameRefused 25
   unfolding endRefusal firstRefusal
   not-7777 none seven other =
       let ends = sym (last-four m) ∙ ap (λ (l : List ℕ). beAt l 1 4) (last-4 m (r .zero) (oneBehindTheOther before ++ left) end (r .strung) (r .sixteen) (r .four)) in

@@ -9,7 +9,6 @@ use lib.ListN.{take}
 use Rattle.layout.specs.Outcomes.{refusal}
 use Rattle.field.specs.Accepted.{FollowsField}
 use Rattle.field.specs.Field.{FieldOutcome, refusedField}
-use Rattle.message.specs.declared.Cut.{Cut}
 use Rattle.message.specs.Walk.{refusedWith}
 use Rattle.message.specs.Grammar.{Group, Five, fieldsOf, AllFollow, threeAfter, Parts, fieldsIn, IsFrame}
 use Rattle.message.specs.Messages.{shownIn, cutMessage, outcomeOf, orRefused, fieldsRead, readMessage, Accepted}

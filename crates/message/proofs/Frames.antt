@@ -1,9 +1,9 @@
 -- The frame of a message is accepted exactly when it is section 0, section 1, groups and 7777, and then its fields stand where they stand.
 -- Assumes nothing.
-use Prim.Native.Nat.{ℕ, zero, _+_, _-_, _≤_}
+use Prim.Native.Nat.{ℕ, _+_, _-_, _≤_}
 use native.Mathlib.Omega.{arith}
 use mathlib.Core.Path.{_≡_, refl, ap, sym, _∙_}
-use mathlib.Core.Bool.{Bool, true, false}
+use mathlib.Core.Bool.{true}
 use mathlib.Core.Logic.{inr}
 use mathlib.Core.List.{List, [], _∷_, _++_, append-assoc}
 use lib.ListN.{length, take, drop, length-append, length-drop, take-append-drop}
@@ -11,12 +11,11 @@ use lib.Seq.{length-take-le, take-at, drop-at, take-take}
 use borrow.Author.Tests.{eqb-true, eq-eqb}
 use Rattle.octets.specs.Octets.{beAt}
 use Rattle.octets.proofs.Laws.{beAt-drop, beAt-ahead, beAt-take}
-use Rattle.cutting.specs.Cuts.{Cut as Pieces}
 use Rattle.cutting.proofs.Sections.{cut-sections, sections-back}
-use Rattle.message.specs.Walk.{mayFollow, withSection, inForce, startWalk, judged}
+use Rattle.message.specs.Walk.{mayFollow, withSection, inForce, startWalk, judged, spanAt}
 use Rattle.message.specs.Grammar.{Is, FirstComplete, Group, allSections, oneBehindTheOther, AreGroups, Parts, behindZero, IsFrame}
 use Rattle.message.specs.Messages.{endsRight, bodyOf, sectionsIn, cutMessage, Accepted}
-use Rattle.message.specs.Places.{spanAt, placesIn, fieldsFound, padded}
+use Rattle.message.specs.Places.{placesIn, fieldsFound, padded}
 use Rattle.message.specs.FirstPlace.{Starts}
 use Rattle.message.proofs.Clear.{starts, started}
 use Rattle.message.proofs.Sizes.{AllSized, each-sized, all-sized, sized-groups}

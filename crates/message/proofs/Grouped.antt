@@ -2,7 +2,7 @@
 -- Assumes nothing.
 use Prim.Native.Nat.{ℕ, suc, _+_, _-_, _≤_, _<_}
 use native.Mathlib.Omega.{arith}
-use mathlib.Core.Path.{_≡_, refl, ap, subst, sym, _∙_}
+use mathlib.Core.Path.{_≡_, refl, ap, sym, _∙_}
 use mathlib.Core.Bool.{Bool, true, false, _&&_}
 use mathlib.Core.List.{List, [], _∷_, _++_, append-assoc, append-nil}
 use lib.Dec.{eqb}
@@ -15,9 +15,9 @@ use Rattle.layout.specs.Outcomes.{noRefusal, firstRefusal}
 use Rattle.layout.specs.declared.Span.{Span}
 use Rattle.message.specs.declared.Sections.{Sections}
 use Rattle.message.specs.declared.Cut.{Cut}
-use Rattle.message.specs.Walk.{Walk, mayFollow, otherSix, endRefusal, inForce, oneMore, withSection, noSections, judgedIn}
+use Rattle.message.specs.Walk.{Walk, mayFollow, otherSix, endRefusal, inForce, oneMore, withSection, noSections, judgedIn, spanAt}
 use Rattle.message.specs.Grammar.{Is, Opening, atTwo, atThree, atFour, Opens, Complete, Group, opened, sectionsOf, allSections, IsGroup, AreGroups}
-use Rattle.message.specs.Places.{spanAt, fourAfter, threeAt, placeOf, nextAfter, placesOf, padded, fieldsFound}
+use Rattle.message.specs.Places.{fourAfter, threeAt, placeOf, nextAfter, placesOf, padded, fieldsFound}
 use Rattle.message.specs.FirstPlace.{Clear}
 use Rattle.message.proofs.Clear.{unrefused}
 use Rattle.message.proofs.Walks.{judged-on}

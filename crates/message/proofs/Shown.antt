@@ -10,10 +10,10 @@ use Rattle.cutting.specs.Cuts.{strung}
 use Rattle.layout.specs.Spans.{nowhere, octetsIn, Within}
 use Rattle.layout.specs.declared.Span.{Span}
 use Rattle.message.specs.declared.Sections.{Sections}
-use Rattle.message.specs.Walk.{noSections}
+use Rattle.message.specs.Walk.{noSections, spanAt}
 use Rattle.message.specs.Grammar.{Opening, atTwo, atThree, atFour, Group, Five, opened, allSections, oneBehindTheOther, threeAfter, fieldsOf, fieldsIn, Parts, behindZero, IsFrame}
 use Rattle.message.specs.Messages.{shownIn}
-use Rattle.message.specs.Places.{spanAt, fourAfter, threeAt, nextAfter, placesOf, placesIn, FieldWithin}
+use Rattle.message.specs.Places.{fourAfter, threeAt, nextAfter, placesOf, placesIn, FieldWithin}
 
 -- a section that stands behind so many octets is shown there
 pub shown-at : (m pre x rest : List ℕ) (at : ℕ) → m ≡ pre ++ (x ++ rest) → length pre ≡ at → octetsIn (spanAt at x) m ≡ x

@@ -2,7 +2,7 @@
 -- Assumes nothing.
 use Prim.Native.Nat.{ℕ, _+_}
 use native.Mathlib.Omega.{arith}
-use mathlib.Core.Path.{_≡_, refl, ap, subst, sym, _∙_}
+use mathlib.Core.Path.{_≡_, refl, subst}
 use mathlib.Core.Bool.{Bool, true, false, cond}
 use mathlib.Core.List.{List, [], _∷_}
 use lib.Dec.{eqb}
@@ -11,7 +11,7 @@ use borrow.Author.Tests.{eqb-true}
 use Rattle.layout.specs.declared.Refusal.{Refusal}
 use Rattle.message.specs.declared.Sections.{Sections}
 use Rattle.message.specs.declared.Cut.{Cut}
-use Rattle.message.specs.Walk.{Walk, numberIn, sectionRefusal, endRefusal, noSection, oneMore, withSection, taken, refusedWith, unlessRefused, judgedIn}
+use Rattle.message.specs.Walk.{Walk, numberIn, sectionRefusal, oneMore, withSection, taken, refusedWith, unlessRefused, judgedIn}
 use Rattle.message.specs.Messages.{Accepted}
 use Rattle.message.specs.FirstPlace.{Clear, fieldsAfter}
 use Rattle.message.proofs.Clear.{clear, end-clear}

@@ -3,12 +3,13 @@
 use Prim.Native.Nat.{ℕ, zero, suc, _-_, _^_, _≤_, _<_}
 use native.Mathlib.Omega.{arith}
 use mathlib.Core.Path.{_≡_, refl, ap, sym, subst, _∙_}
-use mathlib.Core.Bool.{Bool, true, false, cond}
+use mathlib.Core.Bool.{Bool, true, false, cond, true≢false}
 use mathlib.Core.List.{List, [], _∷_, _++_}
 use lib.Dec.{ltb, eqb}
 use lib.ListN.{length, length-map, getD, replicate, List·getD-map, List·getD-append, List·getD-eq-default}
 use borrow.Author.Tests.{ltb-true, ltb-false, le-ltb}
 use Rattle.layout.specs.Spans.{nowhere, octetsIn}
+use Rattle.layout.specs.Refusals.{oneOf}
 use Rattle.layout.proofs.Refusals.{by-test}
 use Rattle.message.specs.declared.Sections.{Sections}
 use Rattle.message.specs.declared.Cut.{Cut}
@@ -61,7 +62,28 @@ pub section-shown : (m : List ℕ) (x : FollowsMessage m) (k n : ℕ) → sectio
 unfolding sectionIn
 section-shown m x k n = by-number m (fieldOf (readMessage m) k) n ∙ ap (λ (f : Five). sectionNumbered f n) (field-shown m x k)
 
+-- by number, one by one
+pub sections-by-number : (m : List ℕ) (x : FollowsMessage m) (k : ℕ) → let f = getD (fieldsIn (x .parts)) k noFive in
+    (sectionIn m (readMessage m) k 1 ≡ f .one) × (sectionIn m (readMessage m) k 3 ≡ f .three) × (sectionIn m (readMessage m) k 4 ≡ f .four) × (sectionIn m (readMessage m) k 5 ≡ f .five) × (sectionIn m (readMessage m) k 7 ≡ f .seven)
+unfolding numbered
+sections-by-number m x k = (section-shown m x k 1, section-shown m x k 3, section-shown m x k 4, section-shown m x k 5, section-shown m x k 7)
+
 -- ---- no octets
+
+-- a number that is none of the five
+none-numbered : (x : Five) (a b c d e : Bool) → cond a true (cond b true (cond c true (cond d true (cond e true false)))) ≡ false
+    → cond a (x .one) (cond b (x .three) (cond c (x .four) (cond d (x .five) (cond e (x .seven) [])))) ≡ []
+none-numbered x true b c d e h = absurd (true≢false h)
+none-numbered x false true c d e h = absurd (true≢false h)
+none-numbered x false false true d e h = absurd (true≢false h)
+none-numbered x false false false true e h = absurd (true≢false h)
+none-numbered x false false false false true h = absurd (true≢false h)
+none-numbered x false false false false false h = refl
+
+pub none-of-five : (m : List ℕ) (c : Cut) (k n : ℕ) → oneOf (1 ∷ 3 ∷ 4 ∷ 5 ∷ 7 ∷ []) n ≡ false → sectionIn m c k n ≡ []
+unfolding sectionIn numbered
+none-of-five m c k n h =
+    by-number m (fieldOf c k) n ∙ none-numbered (shownIn m (fieldOf c k)) (eqb n 1) (eqb n 3) (eqb n 4) (eqb n 5) (eqb n 7) h
 
 either-none : (t : Bool) (z : List ℕ) → z ≡ [] → cond t [] z ≡ []
 either-none true z e = refl

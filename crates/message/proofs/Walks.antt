@@ -2,22 +2,22 @@
 -- Assumes nothing.
 use Prim.Native.Nat.{ℕ, _+_, _-_, _≤_, _<_}
 use native.Mathlib.Omega.{arith}
-use mathlib.Core.Path.{_≡_, refl, ap, sym, _∙_}
+use mathlib.Core.Path.{_≡_, ap, sym, _∙_}
 use mathlib.Core.Bool.{Bool, cond}
 use mathlib.Core.Logic.{⊎-elim}
 use mathlib.Core.List.{List, _∷_}
 use lib.Dec.{eqb}
-use lib.ListN.{length, take, drop, length-drop}
+use lib.ListN.{length, drop, length-drop}
 use lib.Seq.{length-take-le, drop-drop}
 use borrow.Author.Tests.{eq-eqb, ne-eqb}
-use Rattle.layout.specs.declared.Span.{Span}
-use Rattle.cutting.specs.Cuts.{Cut as Pieces, inFront, cutOf}
+use Rattle.layout.specs.Outcomes.{refusal}
+use Rattle.cutting.specs.Cuts.{inFront, cutOf}
 use Rattle.cutting.specs.Sections.{stretch, sectionStep, endAfter}
 use Rattle.cutting.proofs.Cuts.{cut-item, cut-stopped, cut-end}
 use Rattle.cutting.proofs.Sections.{EndsAfter, ends-or-none, sections-advance}
 use Rattle.message.specs.declared.Sections.{Sections}
 use Rattle.message.specs.declared.Cut.{Cut}
-use Rattle.message.specs.Walk.{Walk, numberIn, sectionRefusal, endRefusal, noSection, inForce, oneMore, withSection, taken, unlessRefused, refusedWith, judgedIn, judged}
+use Rattle.message.specs.Walk.{Walk, numberIn, sectionRefusal, endRefusal, inForce, oneMore, withSection, taken, unlessRefused, refusedWith, judgedIn, judged}
 
 -- ---- one section more
 
@@ -40,7 +40,7 @@ module _ (body : List ℕ) (right : Bool) (w : Walk) (at : ℕ) where
   unfolding judgedIn
   walk-end l = sym (ap (judged right at w) (cut-end sectionStep sections-advance (drop at body) (omega (arith, length-drop at body))))
 
-  pub walk-stopped : at < length body → endAfter body at ≡ 0 → refusedWith noSection ≡ judgedFrom body right w at
+  pub walk-stopped : at < length body → endAfter body at ≡ 0 → refusedWith (refusal 23 0 0) ≡ judgedFrom body right w at
   unfolding judgedIn
   walk-stopped l e =
       ⊎-elim

@@ -61,5 +61,5 @@ pub record Begins (left x : List ℕ) : Type 0 where
   pub sized : Sized x
 
 -- a message refused with a number of its frame, which has no section and no place
-abbrev pub refusedBy : ℕ → Cut
-refusedBy number = refusedWith (refusal number 0 0)
+abbrev pub frameRefused : ℕ → Cut
+frameRefused number = refusedWith (refusal number 0 0)

@@ -22,7 +22,7 @@ pub data Opening : Type 0 where
   atThree : List ℕ → Opening
   atFour : Opening
 
--- the sections that a field repeats
+-- the sections of a field that stand in its own group, and section 6
 pub record Group : Type 0 where
   pub opening : Opening
   pub four : List ℕ
@@ -62,7 +62,7 @@ unfoldable pub AreGroups : List Group → Type 0
 AreGroups [] = Unit {0}
 AreGroups (g ∷ gs) = IsGroup g × AreGroups gs
 
--- the first group has a section 3, and there is one
+-- there is a first group, and it has a section 3
 abbrev pub Complete : Opening → Type 0
 Complete (atTwo two three) = Unit {0}
 Complete (atThree three) = Unit {0}

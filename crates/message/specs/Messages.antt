@@ -68,10 +68,6 @@ shownIn m f =
 unfoldable pub outcomeOf : Five → FieldOutcome
 outcomeOf x = fieldOutcome (x .one) (x .three) (x .four) (x .five) (x .seven)
 
--- sections 1 and 3 of a field
-abbrev pub openingOutcome : Five → Outcome
-openingOutcome x = andThen (outcome₁ (x .one)) (outcome₃ (x .three))
-
 unfoldable pub orRefused : FieldOutcome → Cut → Cut
 orRefused (refusedField number section place) c = refusedWith (refusal number section place)
 orRefused (readField one three four five) c = c
@@ -80,15 +76,6 @@ orRefused (readField one three four five) c = c
 unfoldable pub fieldsRead : Cut → List Five → Cut
 fieldsRead c [] = c
 fieldsRead c (x ∷ xs) = orRefused (outcomeOf x) (fieldsRead c xs)
-
--- a section that stands there was read; one that stands nowhere need not be
-abbrev pub WasRead : (List ℕ → Outcome) → List ℕ → Span → Type 0
-WasRead outcome m x = 0 < x .length → (vs : List Value) × (outcome (octetsIn x m) ≡ read vs)
-
--- sections 1 and 3 of a field were
-pub record OpeningRead (m : List ℕ) (f : Sections) : Type 0 where
-  pub one : WasRead outcome₁ m (f .one)
-  pub three : WasRead outcome₃ m (f .three)
 
 -- the fields that are found
 abbrev pub foundIn : List ℕ → Cut → List Five
@@ -123,3 +110,18 @@ sectionIn m c k n = octetsIn (spanOf (fieldOf c k) n) m
 -- the section of a field that has this number; of others, no octets
 abbrev pub sectionNumbered : Five → ℕ → List ℕ
 sectionNumbered x n = numbered (x .one) (x .three) (x .four) (x .five) (x .seven) [] n
+
+-- ---- for the code, which reads no section again that the field before has too
+
+-- sections 1 and 3 of a field
+abbrev pub openingOutcome : Five → Outcome
+openingOutcome x = andThen (outcome₁ (x .one)) (outcome₃ (x .three))
+
+-- a section that stands there was read; one that stands nowhere need not be
+abbrev pub WasRead : (List ℕ → Outcome) → List ℕ → Span → Type 0
+WasRead outcome m x = 0 < x .length → (vs : List Value) × (outcome (octetsIn x m) ≡ read vs)
+
+-- sections 1 and 3 of a field were
+pub record OpeningRead (m : List ℕ) (f : Sections) : Type 0 where
+  pub one : WasRead outcome₁ m (f .one)
+  pub three : WasRead outcome₃ m (f .three)

@@ -10,9 +10,15 @@ use Rattle.message.specs.declared.Cut.{Cut}
 use Rattle.message.specs.Walk.{refusedWith}
 use Rattle.message.specs.Messages.{Accepted}
 
-abbrev pub messageTable : List Row
-messageTable = row 0 (2 ∷ 22 ∷ 23 ∷ 24 ∷ 25 ∷ []) ∷ fieldTable
+abbrev pub frameRow : Row
+frameRow = row 0 (2 ∷ 22 ∷ 23 ∷ 24 ∷ 25 ∷ [])
 
--- fields are found and nothing is refused, or it is refused as the table lists and has no fields
-abbrev pub Decided : Cut → Type 0
-Decided c = (Accepted c × (c .refusal ≡ noRefusal)) ⊎ ((c ≡ refusedWith (c .refusal)) × Listed messageTable (c .refusal))
+abbrev pub frameTable : List Row
+frameTable = frameRow ∷ []
+
+abbrev pub messageTable : List Row
+messageTable = frameRow ∷ fieldTable
+
+-- fields are found and nothing is refused, or it is refused as a table lists and has no fields
+abbrev pub Decided : List Row → Cut → Type 0
+Decided table c = (Accepted c × (c .refusal ≡ noRefusal)) ⊎ ((c ≡ refusedWith (c .refusal)) × Listed table (c .refusal))

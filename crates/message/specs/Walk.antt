@@ -7,7 +7,7 @@ use lib.Dec.{ltb, eqb}
 use lib.ListN.{length, set, replicate}
 use Rattle.octets.specs.Octets.{beAt}
 use Rattle.layout.specs.Fields.{between}
-use Rattle.layout.specs.Outcomes.{Reason, reason, firstRefusal, noRefusal}
+use Rattle.layout.specs.Outcomes.{Reason, reason, firstRefusal, refusal, noRefusal}
 use Rattle.layout.specs.Spans.{nowhere}
 use Rattle.layout.specs.declared.Span.{Span}
 use Rattle.layout.specs.declared.Refusal.{Refusal}
@@ -59,10 +59,6 @@ endReasons last right = reason 23 (not (eqb last 7)) ∷ reason 25 (not right) �
 unfoldable pub endRefusal : ℕ → Bool → Refusal
 endRefusal last right = firstRefusal 0 (endReasons last right)
 
--- where what is left is no section of 5 octets or more before the last four
-abbrev pub noSection : Refusal
-noSection = record { number = 23; section = 0; place = 0 }
-
 -- ---- what is in force
 
 -- a section stands there now; 2 and 6 are passed over
@@ -96,15 +92,19 @@ withSection w n x =
     }
 
 -- a section that stands after octet `at`
+abbrev pub spanAt : ℕ → List ℕ → Span
+spanAt at x = record { before = at; length = length x }
+
 abbrev pub taken : ℕ → Walk → List ℕ → Walk
-taken at w x = withSection w (numberIn x) (record { before = at; length = length x })
+taken at w x = withSection w (numberIn x) (spanAt at x)
 
 abbrev pub startWalk : Walk
 startWalk = record { last = 0; force = noSections; found = refusedWith noRefusal }
 
--- from the section after octet `at` on: these sections, and whether they are all that is left before the last four octets
+-- from the section after octet `at` on: these sections, and whether they are all that is left before the last four octets; 23 where what is left is
+-- no section of 5 octets or more
 unfoldable pub judgedIn : Bool → Bool → ℕ → Walk → List (List ℕ) → Cut
-judgedIn whole right at w [] = cond whole (unlessRefused (endRefusal (w .last) right) (w .found)) (refusedWith noSection)
+judgedIn whole right at w [] = cond whole (unlessRefused (endRefusal (w .last) right) (w .found)) (refusedWith (refusal 23 0 0))
 judgedIn whole right at w (x ∷ xs) =
     unlessRefused (sectionRefusal (w .last) (w .found .count) x) (judgedIn whole right (at + length x) (taken at w x) xs)
 

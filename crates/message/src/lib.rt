@@ -210,18 +210,14 @@ fn walk_sections(body: &[u8], right: bool) -> Cut
             return refused_with(refusal);
         }
         last = octets::u8_at(section, 5);
-        force = in_force(
-            force,
-            last,
-            Span {
-                before: at,
-                length: end - at,
-            },
-        );
+        let length = end - at;
+        let after = in_force(force, last, Span { before: at, length });
         if last == 7 {
-            cut.fields[cut.count] = force;
+            let field = after;
+            cut.fields[cut.count] = field;
             cut.count += 1;
         }
+        force = after;
         at = end;
     }
     let refusal = end_refusal(last, right);

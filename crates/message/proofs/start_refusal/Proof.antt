@@ -1,4 +1,3 @@
-use borrow.Author.Needs.{needs}
 use borrow.Author.Tests.{lt-ltb, le-ltb, eq-eqb, ne-eqb}
 use Rattle.octets.proofs.Free.{free}
 use Rattle.layout.specs.Outcomes.{firstRefusal}

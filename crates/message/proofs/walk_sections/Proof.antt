@@ -1,16 +1,14 @@
 -- `walk_sections`: from section to section, each judged by those before it.
 -- Assumes nothing.
-use Prim.Native.Nat.{ℕ, _-_, _<_}
+use Prim.Native.Nat.{_-_, _<_}
 use native.Mathlib.Omega.{arith}
 use mathlib.Core.Path.{_≡_, ap, sym, _∙_}
-use mathlib.Core.List.{List}
 use lib.ListN.{length}
 use Rattle.layout.specs.declared.Refusal.{Refusal}
 use denote.Ref.{now}
 use borrow.Author.Needs.{needs}
 use borrow.Author.Tests.{eq-eqb, ne-eqb}
 use Rattle.octets.proofs.Free.{free}
-use Rattle.octets.proofs.Lists.{unmapped}
 use Rattle.cutting.proofs.Sections.{EndsAfter}
 use Rattle.cutting.specs.Sections.{stretch}
 use Rattle.message.specs.Walk.{numberIn, sectionRefusal, refusedWith, startWalk}
@@ -65,17 +63,17 @@ cleared : (c : tie.Else2 Inv-loop μ-loop) → let e = c .before .before .before
     sectionRefusal (l .loop .last) (l .loop .cut .count) (stretch (now (l .before .before .before .before .before .args .body)) (l .loop .at) (e .end-after .result)) .number ≡ 0
 cleared c = ap (λ (x : Refusal). x .number) (sym (refusal-is (c .before .before))) ∙ c .if2 .left
 
-sub-t13 : tie.Need-sub-t13 Inv-loop μ-loop
-sub-t13 c = omega (arith, there (c .before .before .before .before .before) .later)
+sub-length : tie.Need-sub-length Inv-loop μ-loop
+sub-length c = omega (arith, there (c .before .before .before .before .before) .later)
 
 room : (c : tie.Else2 Inv-loop μ-loop) → c .before .before .before .before .before .before .before .loop .cut .count < 16
 room c = clear _ _ _ (cleared c) .room
 
-mul-force : tie.Need-mul-force Inv-loop μ-loop
-mul-force c = search (needs, room (c .before .before .before))
+mul-field : tie.Need-mul-field Inv-loop μ-loop
+mul-field c = search (needs, room (c .before .before .before))
 
-element-set-from-force : tie.Need-element-set-from-force Inv-loop μ-loop
-element-set-from-force c = room (c .before .before .before)
+element-set-from-field : tie.Need-element-set-from-field Inv-loop μ-loop
+element-set-from-field c = room (c .before .before .before)
 
 add-cut : tie.Need-add-cut Inv-loop μ-loop
 add-cut c = search (needs, room (c .before .before .before))
@@ -142,10 +140,10 @@ walk-sections-spec =
     free
     returns-2
     free
-    sub-t13
+    sub-length
     free
-    mul-force
-    element-set-from-force
+    mul-field
+    element-set-from-field
     add-cut
     loop-less
     loop-again
