@@ -1,4 +1,4 @@
-use mathlib.Core.Path.{_≡_, ap, sym, _∙_}
+use mathlib.Core.Path.{ap, sym, _∙_}
 use Rattle.octets.proofs.Free.{free}
 use Rattle.layout.specs.declared.Refusal.{Refusal}
 use Rattle.message.proofs.Reading.{opening-refused, opening-passed}
