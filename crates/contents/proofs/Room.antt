@@ -1,9 +1,9 @@
 -- The contents fit the buffer that they are written into, whatever the message: nothing of them is ever cut.
 -- Assumes nothing.
-use mathlib.Core.Path.{_≡_, refl}
+use mathlib.Core.Path.{_≡_}
 use mathlib.Core.Bool.{Bool, true, false, cond}
 use mathlib.Core.List.{List}
-use Prim.Native.Nat.{ℕ, zero, suc, _+_, _*_, _≤_}
+use Prim.Native.Nat.{ℕ, _+_, _*_, _≤_}
 use native.Mathlib.Omega.{arith}
 use lib.Dec.{eqb}
 use lib.ListN.{length, length-append}
@@ -16,7 +16,7 @@ use Rattle.message.specs.Grammar.{Five}
 use Rattle.message.specs.Messages.{shownIn, fieldOf, readMessage}
 use Rattle.message.specs.declared.Sections.{Sections}
 use Rattle.message.specs.declared.Cut.{Cut}
-use Rattle.message.proofs.AcceptedExactlyWhen.{accepted-exactly-when, count-is}
+use Rattle.message.proofs.RefusalNumbers.{few-fields}
 use Rattle.text.specs.Text.{refusedText}
 use Rattle.text.proofs.Decimal.{decimal-most}
 use Rattle.text.proofs.Lengths.{time-most, refused-most, in-turn-most}
@@ -52,13 +52,6 @@ field-lines m c = in-turn-most 442 (lineOf m c) (λ k. field-line (k + 1) (shown
 
 -- ---- of a message, which has at most sixteen
 
-count-most : (m : List ℕ) → readMessage m .count ≤ 16
-count-most m = by-count (readMessage m .count) refl
-  where
-    by-count : (n : ℕ) → readMessage m .count ≡ n → n ≤ 16
-    by-count zero e = omega arith
-    by-count (suc n) e = let x = accepted-exactly-when m .0 (omega arith) in omega (arith, count-is m x, x .frame .most)
-
 contents-of : (m : List ℕ) (c : Cut) → c .count ≤ 16 → length (contentsOf m c) ≤ 8192
 unfolding contentsOf acceptedText
 contents-of m c few = by-number (eqb (c .refusal .number) 0)
@@ -69,7 +62,7 @@ contents-of m c few = by-number (eqb (c .refusal .number) 0)
 
 pub contents-fit : (m : List ℕ) → length (contents m) ≤ 8192
 unfolding contents
-contents-fit m = contents-of m (readMessage m) (count-most m)
+contents-fit m = contents-of m (readMessage m) (few-fields m)
 
 -- so what is left at the start of the buffer is the whole text
 pub contents-whole : (m out : List ℕ) → length out ≡ 8192 → append (written out 0) (contents m) ≡ startsWith out (contents m)

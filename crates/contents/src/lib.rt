@@ -71,25 +71,25 @@ fn field_lines(out: &mut [u8], at: usize, message: &[u8], cut: Cut) -> usize
     let mut next = at;
     let mut k: usize = 0;
     while k < cut.count {
-        next = field_line(out, next, k as u64 + 1, message, message::field_of(cut, k));
+        next = field_line(out, next, k as u64 + 1, message, cut, k);
         k += 1;
     }
     next
 }
 
 // The sections are parts of the message, and nothing is copied.
-fn field_line(out: &mut [u8], at: usize, number: u64, message: &[u8], sections: Sections) -> usize
-    requires { ⌜ LowField sections ⌝ }
-    ensures { λ r. ⌜ written (now (out .exit)) r ≡ append (written (now (out .entry)) at) (fieldLine number (shownIn (now (message .entry)) sections) sections) ⌝ }
+fn field_line(out: &mut [u8], at: usize, number: u64, message: &[u8], cut: Cut, k: usize) -> usize
+    requires { ⌜ LowField (fieldOf cut k) ⌝ }
+    ensures { λ r. ⌜ written (now (out .exit)) r ≡ append (written (now (out .entry)) at) (fieldLine number (shownIn (now (message .entry)) (fieldOf cut k)) (fieldOf cut k)) ⌝ }
 {
-    let section1 = octets::part_after(message, sections.one.before, sections.one.length);
-    let section3 = octets::part_after(message, sections.three.before, sections.three.length);
-    let section4 = octets::part_after(message, sections.four.before, sections.four.length);
-    let section5 = octets::part_after(message, sections.five.before, sections.five.length);
+    let section1 = message::section(message, cut, k, 1);
+    let section3 = message::section(message, cut, k, 3);
+    let section4 = message::section(message, cut, k, 4);
+    let section5 = message::section(message, cut, k, 5);
     let a = text::number_then(out, at, number, b' ');
     let b = time_text(out, a, section1);
     let c = numbers_text(out, b, section3, section4, section5);
-    places_text(out, c, sections)
+    places_text(out, c, message::field_of(cut, k))
 }
 
 // A section 1 that is refused has no time; an accepted message has none such.

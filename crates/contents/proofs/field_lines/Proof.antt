@@ -2,12 +2,9 @@
 -- Assumes nothing.
 use Prim.Native.Nat.{_-_}
 use native.Mathlib.Omega.{arith}
-use mathlib.Core.Path.{sym, subst}
 use denote.Ref.{now}
-use Rattle.octets.proofs.Free.{free}
 use Rattle.lent.specs.Written.{written}
 use Rattle.lent.proofs.Written.{Turns, first-turn, next-turn, last-turn}
-use Rattle.message.specs.Places.{LowField}
 use Rattle.contents.specs.Contents.{lineOf}
 use Rattle.contents.proofs.field_lines.Statement.{statement}
 use Rattle.contents.proofs.field_lines.Tie as tie
@@ -19,18 +16,15 @@ abbrev μ-loop : tie.MeasureT-loop
 μ-loop out₀ at message cut next₀ k₀ out next k = cut .count - k
 
 field-line-requires : tie.Need-field-line-requires Inv-loop μ-loop
-field-line-requires c κs =
-    let l = c .before .before .before .before in
-    subst LowField (sym (c .field-of .ensures)) (l .before .before .before .pre (l .loop .k))
+field-line-requires c κs = let l = c .before .before .before in l .before .before .before .pre (l .loop .k)
 
 loop-again : tie.Need-loop-again Inv-loop μ-loop
 loop-again c =
     let w = c .before .before in
-    let l = w .before .before .before .before .before in
+    let l = w .before .before .before .before in
     let a = l .before .before .before .args in
     let x = written (l .loop .out) (l .loop .next) in
-    let line = rw (w .before .field-of .ensures) at (w .field-line .ensures) in
-    next-turn _ (lineOf (now (a .message)) (a .cut)) (a .cut .count) x (l .loop .k) (l .loop .inv) (omega arith) line
+    next-turn _ (lineOf (now (a .message)) (a .cut)) (a .cut .count) x (l .loop .k) (l .loop .inv) (omega arith) (w .field-line .ensures)
 
 returns : tie.Need-returns Inv-loop μ-loop
 returns c =
@@ -46,7 +40,6 @@ field-lines-spec =
     μ-loop
     (λ c. first-turn _ _ _)
     (λ c. omega arith)
-    free
     field-line-requires
     (λ c. omega arith)
     (λ c. omega arith)
