@@ -55,9 +55,9 @@
 #define SKOGMUND_REFUSED_QUEUE 19         /* a number that no queue has, or a record past the queue's end */
 #define SKOGMUND_REFUSED_BODY 20          /* a record's body is not five sections of 5 or more octets */
 #define SKOGMUND_REFUSED_OVER_TOTAL 21    /* longer than the total; the place is the first octet beyond */
-#define SKOGMUND_REFUSED_SECTION_0 22     /* a message under 20 octets, or its start, edition or total length is wrong */
+#define SKOGMUND_REFUSED_START 22         /* a message under 20 octets, or its start, edition or total length is wrong */
 #define SKOGMUND_REFUSED_ORDER 23         /* a message's section is under 5 octets, runs into the last four, is missing or out of order */
-#define SKOGMUND_REFUSED_SECTION_6 24     /* section 6 is not 6 octets with 255 */
+#define SKOGMUND_REFUSED_BIT_MAP 24       /* a message's section 6 is not 6 octets with 255 */
 #define SKOGMUND_REFUSED_END 25           /* a message's last four octets are not 7777, or a section follows the 16th field */
 
 #ifdef __cplusplus
@@ -97,7 +97,8 @@ uint64_t skogmund_unpack(const uint8_t *section5, size_t n5, const uint8_t *sect
    spans[10 * k + 9], of each its first octet in the message (from 1) and its length; one that the field doesn't repeat stands where it did
    for the field before. count[0] is how many fields there are. 2; 22; the lowest of 23 to 25 at the first place where one is met; the refusal
    of the first field that is refused, without 17, which is a matter of filing; then 18 where there are fewer than SKOGMUND_SPANS places or
-   none for the count (`one` is 0). The places past the last span stay as they were. */
+   none for the count (`one` is 0). The refusal of a field has the place in its section, and does not tell which field it is. The places past
+   the last span, and those of `count` behind the first, stay as they were. */
 uint64_t skogmund_message(const uint8_t *message, size_t n, uint64_t *spans, size_t places, uint64_t *count, size_t one);
 
 /* ---- queues */
