@@ -191,7 +191,7 @@ fn start_refusal(message: &[u8]) -> Refusal
 }
 
 // From section to section, from octet 17 on. What stands before the last four octets is lent, so that no section can run into them; `right`
-// says whether they are 7777.
+// says whether they are 7777. Every way out hands back `cut` itself, so that it need not be copied.
 fn walk_sections(body: &[u8], right: bool) -> Cut
     ensures { λ r. ⌜ r ≡ judged right 16 startWalk (cutOf sectionStep (drop 16 (now (body .entry)))) ⌝ }
 {
@@ -202,27 +202,28 @@ fn walk_sections(body: &[u8], right: bool) -> Cut
     while at < body.len() {
         let end = cutting::end_after(body, at);
         if end == 0 {
-            return refused_with(Refusal::of(23, 0));
+            cut = refused_with(Refusal::of(23, 0));
+            return cut;
         }
         let section = cutting::stretch(body, at, end);
         let refusal = section_refusal(section, last, cut.count);
         if refusal.number != 0 {
-            return refused_with(refusal);
+            cut = refused_with(refusal);
+            return cut;
         }
         last = octets::u8_at(section, 5);
         let length = end - at;
-        let after = in_force(force, last, Span { before: at, length });
+        force = in_force(force, last, Span { before: at, length });
         if last == 7 {
-            let field = after;
-            cut.fields[cut.count] = field;
+            cut.fields[cut.count] = force;
             cut.count += 1;
         }
-        force = after;
         at = end;
     }
     let refusal = end_refusal(last, right);
     if refusal.number != 0 {
-        return refused_with(refusal);
+        cut = refused_with(refusal);
+        return cut;
     }
     cut
 }

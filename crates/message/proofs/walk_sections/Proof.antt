@@ -69,11 +69,11 @@ sub-length c = omega (arith, there (c .before .before .before .before .before) .
 room : (c : tie.Else2 Inv-loop μ-loop) → c .before .before .before .before .before .before .before .loop .cut .count < 16
 room c = clear _ _ _ (cleared c) .room
 
-mul-field : tie.Need-mul-field Inv-loop μ-loop
-mul-field c = search (needs, room (c .before .before .before))
+mul-force : tie.Need-mul-force Inv-loop μ-loop
+mul-force c = search (needs, room (c .before .before .before))
 
-element-set-from-field : tie.Need-element-set-from-field Inv-loop μ-loop
-element-set-from-field c = room (c .before .before .before)
+element-set-from-force : tie.Need-element-set-from-force Inv-loop μ-loop
+element-set-from-force c = room (c .before .before .before)
 
 add-cut : tie.Need-add-cut Inv-loop μ-loop
 add-cut c = search (needs, room (c .before .before .before))
@@ -142,8 +142,8 @@ walk-sections-spec =
     free
     sub-length
     free
-    mul-field
-    element-set-from-field
+    mul-force
+    element-set-from-force
     add-cut
     loop-less
     loop-again
