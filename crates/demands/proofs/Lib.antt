@@ -10,3 +10,4 @@ pub mod NumbersForC
 pub mod Twelve
 pub mod ShortOrLong
 pub mod Messages
+pub mod OffsetRows

@@ -1,7 +1,7 @@
 -- A section 3 is accepted exactly when it follows a template and keeps the value rules; what is read out are then the values
 -- of that template's fields.
 -- Assumes nothing.
-use Prim.Native.Nat.{ℕ, zero, suc, _*_, _≤_}
+use Prim.Native.Nat.{ℕ, zero, suc, _*_, _%_, _≤_}
 use native.Mathlib.Nat.{zero-mul}
 use native.Mathlib.Omega.{arith}
 use mathlib.Core.Path.{_≡_, refl, ap, sym, _∙_}
@@ -15,12 +15,12 @@ use Rattle.octets.specs.Octets.{beAt}
 use Rattle.layout.specs.Fields.{Value, between, after, placed, badPlace, AllAllowed}
 use Rattle.layout.specs.Outcomes.{read, reason}
 use Rattle.layout.proofs.Blocks.{bad-none, none-bad}
-use Rattle.layout.proofs.Outcomes.{Headed, Fits, NoneHold, read-none, none-last, opening-read, opening-last, template-read, template-last}
+use Rattle.layout.proofs.Outcomes.{Headed, Fits, NoneHold, either, read-none, none-last, opening-read, opening-last, template-read, template-last}
 use Rattle.layout.proofs.Ranges.{both-hold, either-holds, between-in, in-between, test-differs, differs-test, test-same, same-test, test-unmet}
 use Rattle.grid.specs.Blocks.{hasList, gridHead, counts, corners, pole, poles}
 use Rattle.grid.specs.Templates.{fields₃, baseEnd, listWidth, interpretation, ni, nj, listCount, listOctets, total, values₃, templateNumbered, templateNamed}
 use Rattle.grid.specs.Agreement.{missingWith, agreedWithoutList, agreedWithList, agreed, disagreement}
-use Rattle.grid.specs.Points.{sumOf, pointsOf, pointsReasons}
+use Rattle.grid.specs.Points.{sumOf, pointsWithoutList, pointsOf, pointsReasons}
 use Rattle.grid.specs.Section3.{asTemplate, outcome₃}
 use Rattle.grid.specs.Accepted.{numberOf, Missing, Present, PolesPresent, NoList, AList, Follows₃}
 use Rattle.grid.specs.declared.templates.Template.{Template}
@@ -92,7 +92,7 @@ module _ (template : Template) (s : List ℕ) (width : listWidth s ≡ 0) where
   total-without : total template s ≡ baseEnd template
   total-without = rw (width, zero-mul) (omega arith)
 
-  points-without : pointsOf template s ≡ ni s * nj s
+  points-without : pointsOf template s ≡ pointsWithoutList s
   unfolding pointsOf
   points-without = rw width
 
@@ -109,6 +109,20 @@ module _ (template : Template) (s : List ℕ) (width : hasList (listWidth s) ≡
   unfolding pointsOf
   points-listed = simp (listed-not-0 _ width)
 
+-- without a list: bit 8 of the scanning mode is set, or the points are Ni x Nj
+bit-or-product : (s : List ℕ) → beAt s 7 4 ≡ pointsWithoutList s → (beAt s 72 1 % 2 ≡ 1) ⊎ (beAt s 7 4 ≡ ni s * nj s)
+unfolding pointsWithoutList
+bit-or-product s = by (eqb (beAt s 72 1 % 2) 1) refl
+  where
+    by : (t : Bool) → eqb (beAt s 72 1 % 2) 1 ≡ t → beAt s 7 4 ≡ cond t (beAt s 7 4) (ni s * nj s) → (beAt s 72 1 % 2 ≡ 1) ⊎ (beAt s 7 4 ≡ ni s * nj s)
+    by true b e = inl (eqb-true _ _ b)
+    by false b e = inr e
+
+by-bit-or-product : (s : List ℕ) → (beAt s 72 1 % 2 ≡ 1) ⊎ (beAt s 7 4 ≡ ni s * nj s) → beAt s 7 4 ≡ pointsWithoutList s
+unfolding pointsWithoutList
+by-bit-or-product s (inl b) = rw (eq-eqb _ _ b)
+by-bit-or-product s (inr e) = either (λ n. beAt s 7 4 ≡ n) (eqb (beAt s 72 1 % 2) 1) refl e
+
 -- ---- accepted, so it follows
 
 -- the reasons 10, 11, 21 and 13 in plain words
@@ -124,7 +138,7 @@ module _ (template : Template) (s : List ℕ) (whole : length s ≡ total templa
         ni = test-differs _ _ (present .0);
         nj = test-differs _ _ (present .1);
         whole = whole ∙ total-without template s w;
-        points = points ∙ points-without template s w;
+        points = bit-or-product s (points ∙ points-without template s w);
       }
 
   list-follows : (absent increment counted : ℕ) → hasList (listWidth s) ≡ true → between 1 2 (interpretation s) ≡ true → MissingWith absent increment counted s → listCount s ≡ beAt s counted 4 → AList absent increment counted template s
@@ -205,7 +219,7 @@ no-list-fits template s f = record {
   agree =
       simp (f .width, f .interpretation, ne-eqb _ _ (f .ni), ne-eqb _ _ (f .nj));
   whole = f .whole ∙ sym (total-without template s (f .width));
-  points = f .points ∙ sym (points-without template s (f .width));
+  points = by-bit-or-product s (f .points) ∙ sym (points-without template s (f .width));
 }
 
 list-fits : (absent increment counted : ℕ) (template : Template) (s : List ℕ) → (missingWith 31 64 35 s || missingWith 35 68 31 s) ≡ true → listCount s ≡ beAt s counted 4 → AList absent increment counted template s → FitTogether template s

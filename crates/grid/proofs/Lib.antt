@@ -10,3 +10,4 @@ pub mod RefusalNumbers
 pub mod ShortOrLong
 pub mod MeansByName
 pub mod WithoutTwelve
+pub mod OffsetRows

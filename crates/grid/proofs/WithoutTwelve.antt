@@ -14,7 +14,7 @@ use Rattle.layout.specs.Outcomes.{refused, firstOf, openingReasons, totalReason
 use Rattle.grid.specs.Blocks.{gridHead, earthSize, earth, counts, corners, common, poles}
 use Rattle.grid.specs.Templates.{listWidth, fields₃, listCount, templateNumbered}
 use Rattle.grid.specs.Agreement.{agreedWithoutList, agreed}
-use Rattle.grid.specs.Points.{pointsOf}
+use Rattle.grid.specs.Points.{pointsWithoutList, pointsOf}
 use Rattle.grid.specs.Section3.{asTemplate, outcome₃}
 use Rattle.grid.specs.Twelve.{productAbove, asTemplateWithTwelve, outcomeWithTwelve, numbersNoOctets}
 
@@ -32,5 +32,5 @@ same-without-twelve s o = rw (never-above s o)
 
 -- of numbers that are no octets the two differ: what was taken out is in the one, and not in the other
 pub octets-needed : (outcomeWithTwelve numbersNoOctets ≡ refused 12 3 0) × (outcome₃ numbersNoOctets ≡ refused 13 3 0)
-unfolding numbersNoOctets digits part be beAt between placed lowestBad firstOf openingReasons totalReasons fittingReasons templateReasons gridHead earthSize earth counts corners common poles fields₃ agreedWithoutList agreed listCount pointsOf templateNumbered asTemplate outcome₃ productAbove asTemplateWithTwelve outcomeWithTwelve
+unfolding numbersNoOctets digits part be beAt between placed lowestBad firstOf openingReasons totalReasons fittingReasons templateReasons gridHead earthSize earth counts corners common poles fields₃ agreedWithoutList agreed listCount pointsWithoutList pointsOf templateNumbered asTemplate outcome₃ productAbove asTemplateWithTwelve outcomeWithTwelve
 octets-needed = (refl, refl)

@@ -1,6 +1,6 @@
 -- What it means that a section 3 follows its template and keeps the value rules, in plain words.
 -- Assumes nothing.
-use Prim.Native.Nat.{ℕ, _+_, _*_, _≤_}
+use Prim.Native.Nat.{ℕ, _+_, _*_, _%_, _≤_}
 use mathlib.Core.Path.{_≡_}
 use mathlib.Core.List.{List, [], _∷_, _++_}
 use mathlib.Core.Logic.{_⊎_}
@@ -80,14 +80,14 @@ PolesPresent Rotated s = Present 73 s × Present 77 s
 PolesPresent Stretched s = Present 73 s × Present 77 s
 PolesPresent StretchedAndRotated s = Present 73 s × Present 77 s × Present 85 s × Present 89 s
 
--- width 0: Ni and Nj both present, octet 12 is 0, no list; the points are Ni x Nj
+-- width 0: Ni and Nj both present, octet 12 is 0, no list; bit 8 of the scanning mode in octet 72, the lowest, is set, or the points are Ni x Nj
 pub record NoList (template : Template) (s : List ℕ) : Type 0 where
   pub width : beAt s 11 1 ≡ 0
   pub interpretation : beAt s 12 1 ≡ 0
   pub ni : Present 31 s
   pub nj : Present 35 s
   pub whole : length s ≡ baseEnd template
-  pub points : beAt s 7 4 ≡ beAt s 31 4 * beAt s 35 4
+  pub points : (beAt s 72 1 % 2 ≡ 1) ⊎ (beAt s 7 4 ≡ beAt s 31 4 * beAt s 35 4)
 
 -- width 1, 2 or 4: of Ni and Nj one is missing, its increment too, and the other is how many numbers follow the base;
 -- octet 12 is 1 or 2, and the points are the sum of the list. `absent`, `increment` and `counted` are the first octets of these three

@@ -1,4 +1,5 @@
--- Document 01's starred grid: 3.0, Ni missing, Nj = 3, width 2, list 4, 6, 4 has 78 octets and 14 points. And grids that are short or long.
+-- Document 01's starred grid: 3.0, Ni missing, Nj = 3, width 2, list 4, 6, 4 has 78 octets and 14 points. And grids that are short or long, and
+-- grids with offset rows.
 -- Assumes nothing.
 use Prim.Native.Nat.{ℕ}
 use mathlib.Core.List.{List, [], _∷_, _++_, map}
@@ -74,4 +75,38 @@ shortOrLong₃ =
     ∷ isRefused 11 75 (put 10 1 (withList 74 3))
     ∷ isRefused 13 0 (put 10 1 (withList 75 3))
     ∷ isRefused 21 76 (put 10 1 (withList 76 3))
+    ∷ []
+
+-- ---- offset rows
+
+-- so many octets of this template without a list, with Ni = 4 and Nj = 3, so many points, and this scanning mode. Octets 5 to 14: number, source,
+-- points, list width, list interpretation, template; 15 to 30: earth; 31 to 46: Ni, Nj, basic angle, subdivisions; 47 to 71: 0; 72: scanning mode;
+-- behind it the poles
+abbrev pub fourByThree : ℕ → ℕ → ℕ → ℕ → List ℕ
+fourByThree octets template points mode =
+    filledUp octets
+    (3 ∷ 0 ∷ (digits 4 points ++ (0 ∷ 0 ∷ (digits 2 template ++ (replicate 16 0
+    ++ (digits 4 4 ++ (digits 4 3 ++ (digits 4 0 ++ (digits 4 1 ++ (replicate 25 0 ++ (mode ∷ [])))))))))))
+
+abbrev pub isRead : ℕ → List ℕ → Example
+isRead points s = record { made = answered pointsRead (outcome₃ s); stated = pos points ∷ [] }
+
+-- twelve points are Ni x Nj; the lowest bit, 1, lets others stand, in each template; the highest, 128, does not, nor do all others together; with a
+-- list it is the sum all the same
+abbrev pub offsetRows₃ : List Example
+offsetRows₃ =
+    isRead 12 (fourByThree 72 0 12 0)
+    ∷ isRefused 13 0 (fourByThree 72 0 13 0)
+    ∷ isRead 13 (fourByThree 72 0 13 1)
+    ∷ isRead 12 (fourByThree 72 0 12 1)
+    ∷ isRead 11 (fourByThree 72 0 11 1)
+    ∷ isRead 0 (fourByThree 72 0 0 1)
+    ∷ isRead 13 (fourByThree 84 1 13 1)
+    ∷ isRead 13 (fourByThree 84 2 13 1)
+    ∷ isRead 13 (fourByThree 96 3 13 1)
+    ∷ isRefused 13 0 (fourByThree 72 0 13 128)
+    ∷ isRefused 13 0 (fourByThree 72 0 13 254)
+    ∷ isRead 13 (fourByThree 72 0 13 255)
+    ∷ isRead 14 (put 72 1 exampleSection)
+    ∷ isRefused 13 0 (put 72 1 (put 10 13 exampleSection))
     ∷ []

@@ -1,11 +1,11 @@
-// 13: the points are Ni x Nj, or the sum of the list.
+// 13: the points are Ni x Nj, or octets 7-10 as they stand where rows are offset, or the sum of the list.
 ghost use mathlib.Core.Path.{_≡_};
 ghost use mathlib.Core.Bool.{true};
 ghost use Rattle.octets.specs.Octets.{beAt};
 ghost use Rattle.layout.specs.Outcomes.{firstRefusal};
 ghost use Rattle.grid.specs.Blocks.{hasList};
 ghost use Rattle.grid.specs.Agreement.{agreed};
-ghost use Rattle.grid.specs.Points.{sumOf, pointsOf, pointsReasons};
+ghost use Rattle.grid.specs.Points.{sumOf, pointsWithoutList, pointsOf, pointsReasons};
 use crate::templates::Template;
 use crate::templates::base_end;
 use crate::templates::list_count;
@@ -21,15 +21,13 @@ pub(crate) fn points_refusal(section: &[u8], template: Template) -> Refusal
     Refusal::none()
 }
 
-// Ni x Nj, below 2^64 as a product of two numbers of 32 bits, or the sum of the list.
+// What octets 7-10 have to be: without a list by the counts and the scanning mode, or the sum of the list.
 fn points_of(section: &[u8], template: Template) -> u64
     ensures { λ r. ⌜ (agreed (now (section .entry)) ≡ true → r ≡ pointsOf template (now (section .entry))) ⌝ }
 {
     let width = octets::u8_at(section, 11);
     if width == 0 {
-        let ni = octets::u32_at(section, 31);
-        let nj = octets::u32_at(section, 35);
-        return (ni as u64) * (nj as u64);
+        return points_without_list(section);
     }
     list_sum(
         section,
@@ -37,6 +35,19 @@ fn points_of(section: &[u8], template: Template) -> u64
         width,
         list_count(section),
     )
+}
+
+// Octets 7-10 themselves where bit 8 of the scanning mode, the lowest, is set: rows that are offset may be shorter than Ni.
+// Else Ni x Nj, below 2^64 as a product of two numbers of 32 bits.
+fn points_without_list(section: &[u8]) -> u64
+    ensures { λ r. ⌜ r ≡ pointsWithoutList (now (section .entry)) ⌝ }
+{
+    if octets::u8_at(section, 72) % 2 == 1 {
+        return octets::u32_at(section, 7) as u64;
+    }
+    let ni = octets::u32_at(section, 31);
+    let nj = octets::u32_at(section, 35);
+    (ni as u64) * (nj as u64)
 }
 
 // The sum of `count` numbers of `width` octets each behind octet `end`, in one pass over the list: below 2^64, since count

@@ -3,6 +3,7 @@
 use mathlib.Core.Path.{_≡_, refl, sym, ap, _∙_}
 use mathlib.Core.List.{List, [], _∷_, _++_}
 use mathlib.Core.Bool.{Bool, true, false, cond}
+use mathlib.Core.Logic.{_⊎_, inl, inr}
 use Prim.Native.Nat.{ℕ, _≤_}
 use native.Mathlib.Omega.{arith}
 use lib.Dec.{eqb, ltb}
@@ -35,6 +36,17 @@ pub none-last : (section : ℕ) (rs : List Reason) (o : Outcome) → NoneHold rs
 unfolding firstOf NoneHold
 none-last section [] o h = refl
 none-last section (r ∷ rs) o h = rw (h .0) (none-last section rs o (h .1))
+
+-- what comes behind reasons makes no difference, or none of them holds
+pub same-or-none : (section : ℕ) (rs : List Reason) (o p : Outcome) → (firstOf section rs o ≡ firstOf section rs p) ⊎ NoneHold rs
+unfolding firstOf NoneHold
+same-or-none section [] o p = inr tt
+same-or-none section (r ∷ rs) o p = by-holding (r .holds) refl (same-or-none section rs o p)
+  where
+    by-holding : (t : Bool) → r .holds ≡ t → (firstOf section rs o ≡ firstOf section rs p) ⊎ NoneHold rs → (cond t (refused (r .number) section (r .place)) (firstOf section rs o) ≡ cond t (refused (r .number) section (r .place)) (firstOf section rs p)) ⊎ ((r .holds ≡ false) × NoneHold rs)
+    by-holding true h rest = inl refl
+    by-holding false h (inl e) = inl e
+    by-holding false h (inr n) = inr (h, n)
 
 -- one list of reasons and then another
 pub first-append : (section : ℕ) (a b : List Reason) (o : Outcome) → firstOf section (a ++ b) o ≡ firstOf section a (firstOf section b o)

@@ -48,11 +48,22 @@ module _ (section total : ℕ) (s : List ℕ) (rest : Outcome) (not-11 : Refused
         whole = λ a b. let none = neither short long a b in omega (arith, ltb-false (length s) total (none .0), ltb-false total (length s) (none .1));
       }
 
--- one reason with another number, and then what is not refused with this one either
+-- each of these has another number
+unfoldable pub AllOther : ℕ → List Reason → Type 0
+AllOther number [] = Unit {0}
+AllOther number (r ∷ rs) = (r .number ≡ number → ⊥) × AllOther number rs
+
+-- reasons with other numbers, and then what is not refused with this one either
+pub other-numbers : (number section : ℕ) (rs : List Reason) (o : Outcome) → AllOther number rs → (RefusedWith number o → ⊥) → RefusedWith number (firstOf section rs o) → ⊥
+unfolding firstOf AllOther
+other-numbers number section [] o others last = last
+other-numbers number section (r ∷ rs) o others last =
+    either (λ (x : Outcome). RefusedWith number x → ⊥) (r .holds) {x = refused (r .number) section (r .place)} {y = firstOf section rs o} (others .0)
+    (other-numbers number section rs o (others .1) last)
+
 pub other-number : (number section other : ℕ) (holds : Bool) (o : Outcome) → (other ≡ number → ⊥) → (RefusedWith number o → ⊥) → RefusedWith number (firstOf section (reason other holds ∷ []) o) → ⊥
-unfolding firstOf
-other-number number section other true o p q = p
-other-number number section other false o p q = q
+unfolding AllOther
+other-number number section other holds o p = other-numbers number section (reason other holds ∷ []) o (p, tt)
 
 -- ---- behind the lower reasons
 

@@ -90,6 +90,15 @@ fn fourteen() -> Field {
     ])
 }
 
+/// Eleven points of rows that are offset, with this scanning mode, where Ni x Nj is twelve.
+fn eleven(mode: u64) -> Field {
+    good_but(&[
+        (THREE, grid(0).scanned(mode, 11)),
+        (FIVE, five(11, 3)),
+        (SEVEN, seven(&[7; 5])),
+    ])
+}
+
 fn of_five_octets(number: u8) -> Vec<u8> {
     vec![0, 0, 0, 5, number]
 }
@@ -131,6 +140,14 @@ fn groups(cases: &mut Messages) {
     }
     let shows = "a section 3 in force over several groups";
     cases.stated(shows, several_groups(), SEVERAL_GROUPS);
+    let shows = "offset rows over two groups, and then twelve values of them";
+    let offset = [(3, eleven(65)), (4, eleven(65))];
+    let stated = "\n2 2024 3 7 18 30 45 0 0 11 3 17 21 38 72 181 34 215 21 242 10\nfields 2\n";
+    cases.stated(shows, framed(&grouped(&offset)), stated);
+    let sections = grouped(&[offset[0].clone(), (4, good())]);
+    cases.stated(shows, framed(&sections), "refused 14 5 0\n");
+    let sections = grouped(&[(3, eleven(64))]);
+    cases.stated("no row is offset", framed(&sections), "refused 13 3 0\n");
     let shows = "a field of twelve values where fourteen points are in force";
     let sections = grouped(&[(3, good()), (3, fourteen()), (4, good())]);
     cases.stated(shows, framed(&sections), "refused 14 5 0\n");

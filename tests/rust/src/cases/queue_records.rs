@@ -216,6 +216,21 @@ fn greatest_product(cases: &mut Queues) {
     cases.stated(shows, queue, "\n1 5 0 refused 13 3 0\n");
 }
 
+/// Eleven points of rows that are offset, where Ni x Nj is twelve: N is octets 7-10 of section 3.
+fn offset_rows(cases: &mut Queues) {
+    let three = |mode| (THREE, grid(0).scanned(mode, 11));
+    let eleven = [(FIVE, five(11, 3)), (SEVEN, seven(&[0, 1, 2, 3, 4]))];
+    let [five, seven] = eleven;
+    let queue = queue_of(&[
+        filed(5, 0, &[three(65), five.clone(), seven.clone()]),
+        filed(6, 0, &[three(65)]),
+        filed(7, 0, &[three(64), five, seven]),
+        plainly(8),
+    ]);
+    let fates = "\n1 5 0 kept\n2 6 0 refused 14 5 0\n3 7 0 refused 13 3 0\n4 8 0 kept\n";
+    cases.stated("offset rows, and N by octets 7-10", queue, fates);
+}
+
 fn slots(cases: &mut Queues) {
     let small = [0, 1, 62, 63, 64, 65, 127, 128, 255, 256, 320, 16383, 16384];
     let great = [65536, 65543, 1 << 31, ONES, 1 << 32];
@@ -419,6 +434,7 @@ pub fn add(cases: &mut Queues) {
     refusals_of_fields(cases);
     in_place_of_others(cases);
     greatest_product(cases);
+    offset_rows(cases);
     slots(cases);
     bodies(cases);
     more_bodies(cases);

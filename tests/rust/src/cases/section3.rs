@@ -2,7 +2,9 @@
 use super::build::{resized, sized, with_fields, with_number, ONES};
 use super::{Asked, Cases};
 use crate::generate::sections::{close, put};
-use crate::reference::grid::{Template, DI_AT, DJ_AT, NI_AT, NJ_AT, POINTS_AT, TEMPLATES};
+use crate::reference::grid::{
+    Template, DI_AT, DJ_AT, NI_AT, NJ_AT, POINTS_AT, SCANNING_MODE_AT, TEMPLATES,
+};
 use crate::reference::table::{rows, Rule};
 
 /// The counts and the list of a section, which is accepted as it stands here.
@@ -88,7 +90,7 @@ impl Grid {
         fields.extend([(21, 255), (22, ONES), (26, 255), (27, ONES)]);
         fields.extend([(NI_AT, self.ni), (NJ_AT, self.nj), (43, ONES)]);
         fields.extend([(47, 60000000), (51, 0x8000_0000 + 5000000), (55, 48)]);
-        fields.extend([(56, 50000000), (60, 15000000), (72, 64)]);
+        fields.extend([(56, 50000000), (60, 15000000), (SCANNING_MODE_AT, 64)]);
         fields.push((DI_AT, increment(self.ni, 250000)));
         fields.push((DJ_AT, increment(self.nj, 500000)));
         fields
@@ -117,6 +119,12 @@ impl Grid {
     pub fn points_are(self, points: u64) -> Vec<u8> {
         let points = Some(points);
         Grid { points, ..self }.octets()
+    }
+
+    /// With this scanning mode, and so many points.
+    pub fn scanned(self, mode: u64, points: u64) -> Vec<u8> {
+        let points = Some(points);
+        Grid { points, ..self }.with(&[(SCANNING_MODE_AT, mode)])
     }
 
     fn interpretation_is(self, interpretation: u64) -> Grid {
@@ -469,6 +477,68 @@ fn points(cases: &mut Cases) {
     }
 }
 
+/// Bit 8 of the scanning mode is the lowest. Set and without a list, octets 7-10 stand as they are.
+fn offset_rows(cases: &mut Cases) {
+    let mut case = |shows: &str, s, stated: &str| {
+        cases.stated(shows, Asked::Section(3, s), stated);
+    };
+    for (t, values, base_end) in [(0, 26, 72), (1, 29, 84), (2, 29, 84), (3, 32, 96)] {
+        for points in [0, 11, 12, 13, ONES] {
+            let read = format!("read {values} {base_end} 3 0 {points} ");
+            for mode in [1, 5, 9, 65, 127, 129, 255] {
+                let shows = "offset rows: any points with bit 8 of the scanning mode";
+                case(shows, grid(t).scanned(mode, points), &read);
+            }
+            let stated = if points == 12 {
+                &read
+            } else {
+                "refused 13 3 0 "
+            };
+            for mode in [0, 2, 4, 8, 64, 128, 254] {
+                let shows = "offset rows: Ni x Nj without bit 8, whatever the others";
+                case(shows, grid(t).scanned(mode, points), stated);
+            }
+        }
+    }
+    for grid in with_each_list() {
+        for (points, stated) in [(14, " 3 0 14 "), (13, "refused 13 3 0 ")] {
+            let shows = "offset rows: the sum of the list, also with bit 8";
+            case(shows, grid.clone().scanned(1, points), stated);
+        }
+    }
+    for points in [0, 12, 15, ONES] {
+        let shows = "offset rows: the sum of the list, also with bit 8";
+        case(shows, document(2).scanned(255, points), "refused 13 3 0 ");
+    }
+    before_offset_rows(cases);
+}
+
+/// Reasons that come before 13 are met with bit 8 as without it.
+fn before_offset_rows(cases: &mut Cases) {
+    let no_ni = Grid {
+        ni: ONES,
+        ..grid(0)
+    };
+    let no_nj = Grid { nj: 0, ..grid(0) };
+    for (s, stated) in [
+        (sized(&grid(0).scanned(1, 13), 71), "refused 7 3 0 "),
+        (no_nj.scanned(1, 13), "refused 8 3 35 "),
+        (no_ni.scanned(1, 13), "refused 10 3 0 "),
+        (sized(&grid(0).scanned(1, 13), 73), "refused 21 3 73 "),
+    ] {
+        let shows = "offset rows: the reasons before 13";
+        cases.stated(shows, Asked::Section(3, s), stated);
+    }
+    let most = Grid {
+        ni: ONES - 1,
+        nj: ONES - 1,
+        ..grid(0)
+    };
+    let shows = "offset rows: the greatest counts";
+    let s = most.scanned(1, 12);
+    cases.stated(shows, Asked::Section(3, s), "read 26 72 3 0 12 ");
+}
+
 fn listed_numbers(cases: &mut Cases) {
     for width in [1, 2, 4] {
         let most: u64 = (1 << (8 * width)) - 1;
@@ -557,6 +627,7 @@ pub fn add(cases: &mut Cases) {
     agreement(cases);
     totals(cases);
     points(cases);
+    offset_rows(cases);
     listed_numbers(cases);
     several(cases);
 }

@@ -1,7 +1,8 @@
 //! Fields to be filed, one by one or as a queue's records.
 use super::damage::{damage, damage_inside, swell_section};
 use super::sections::{
-    field_at, put, section1_at, section3_of_no_width, section5, section7, wrapped_section3, Size,
+    field_at, put, section1_at, section3_of_no_width, section3_of_other_points, section5, section7,
+    wrapped_section3, Size,
 };
 use super::Rng;
 use crate::reference::queue::GREATEST;
@@ -100,7 +101,7 @@ impl Stock {
 
 /// One damage to a field that leaves it five sections with true length octets.
 pub fn damaged_field(rng: &mut Rng, mut field: [Vec<u8>; 5]) -> [Vec<u8>; 5] {
-    match rng.below(12) {
+    match rng.below(13) {
         0..=6 => {
             let which = rng.below(5);
             damage_inside(rng, &mut field[which]);
@@ -120,6 +121,7 @@ pub fn damaged_field(rng: &mut Rng, mut field: [Vec<u8>; 5]) -> [Vec<u8>; 5] {
             field[4] = section7(rng, values, bits);
         }
         10 => field[1] = wrapped_section3(rng),
+        11 => field[1] = section3_of_other_points(rng),
         _ => field[1] = section3_of_no_width(rng),
     }
     field

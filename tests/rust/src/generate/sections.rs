@@ -162,6 +162,36 @@ fn counts(rng: &mut Rng, size: Size) -> (u64, u64) {
     }
 }
 
+/// Ni x Nj of a section 3 whose numbers agree, or the sum of its list.
+pub fn counted_points(s: &[u8]) -> u64 {
+    let width = number(s, grid::WIDTH_AT, 11) as usize;
+    if width == 0 {
+        return number(s, grid::NI_AT, 34) * number(s, grid::NJ_AT, 38);
+    }
+    let base_end = grid::TEMPLATES[number(s, 13, 14) as usize].base_end;
+    let listed = s[base_end..].chunks_exact(width);
+    listed.map(|one| number(one, 1, width)).sum()
+}
+
+/// Others than these: above, below or none. No points stay none, or get more.
+fn other_points(rng: &mut Rng, points: u64) -> u64 {
+    let few = rng.within(1, 3) as u64;
+    match rng.below(3) {
+        0 => points.saturating_add(few).min(MISSING),
+        1 => points.saturating_sub(few),
+        _ => 0,
+    }
+}
+
+/// Points of a grid without a list: Ni x Nj, and others as well where the scanning mode says that rows are offset.
+fn points_without_list(rng: &mut Rng, s: &[u8], product: u64) -> u64 {
+    let mode = s[grid::SCANNING_MODE_AT - 1];
+    match grid::rows_are_offset(mode) && rng.percent(75) {
+        true => other_points(rng, product),
+        false => product,
+    }
+}
+
 /// Ni and Nj whose product passes 32 bits: just, or nearly up to 2^64.
 fn counts_beyond(rng: &mut Rng) -> (u64, u64) {
     let few = rng.below(3) as u64;
@@ -218,14 +248,24 @@ pub fn section3(rng: &mut Rng, size: Size) -> Vec<u8> {
     match rng.pick(&[0, 0, 1, 2, 4]) {
         0 => {
             let (ni, nj) = counts(rng, size);
-            with_counts(&mut s, 0, 0, ni, nj, ni * nj);
+            let points = points_without_list(rng, &s, ni * nj);
+            with_counts(&mut s, 0, 0, ni, nj, points);
         }
         width => with_list(rng, &mut s, width, size),
     }
     s
 }
 
-/// Section 3 whose points are right but for a multiple of 2^32: 13, for a reader whose products or sums wrap.
+/// Section 3 with other points than it had: 13 where there is a list, or no row is offset.
+pub fn section3_of_other_points(rng: &mut Rng) -> Vec<u8> {
+    let mut s = section3(rng, Size::Small);
+    let others = other_points(rng, points(&s));
+    put(&mut s, grid::POINTS_AT, 10, others);
+    s
+}
+
+/// Section 3 whose points are right but for a multiple of 2^32: 13 where there is a list, or no row is offset, for a reader whose products or
+/// sums wrap.
 pub fn wrapped_section3(rng: &mut Rng) -> Vec<u8> {
     let mut s = section3(rng, Size::Small);
     let points = if number(&s, grid::WIDTH_AT, 11) == 4 {
@@ -254,19 +294,14 @@ pub fn section3_of_no_width(rng: &mut Rng) -> Vec<u8> {
 /// Makes the last number of a list so great that the sum passes 32 bits, where there are two or more; gives the sum.
 fn wrap_list(rng: &mut Rng, s: &mut [u8]) -> u64 {
     let end = s.len();
-    let listed = |s: &[u8]| {
-        let base_end = grid::TEMPLATES[number(s, 13, 14) as usize].base_end;
-        let numbers = s[base_end..].chunks_exact(4);
-        numbers.map(|one| number(one, 1, 4)).sum::<u64>()
-    };
-    let least = MISSING - listed(s).min(40);
+    let least = MISSING - counted_points(s).min(40);
     put(
         s,
         end - 3,
         end,
         rng.within(least as usize, MISSING as usize) as u64,
     );
-    listed(s)
+    counted_points(s)
 }
 
 pub fn section4(rng: &mut Rng, size: Size) -> Vec<u8> {

@@ -14,6 +14,7 @@ pub const NI_AT: usize = 31;
 pub const NJ_AT: usize = 35;
 pub const DI_AT: usize = 64;
 pub const DJ_AT: usize = 68;
+pub const SCANNING_MODE_AT: usize = 72;
 
 const FRONT: &[Field] = &[
     octet(6, "source", Rule::OneOf(&[0])),
@@ -41,7 +42,7 @@ const BASE: &[Field] = &[
     span(60, 63, "Lo2", Rule::Signed),
     span(DI_AT, 67, "Di", Rule::OrMissing),
     span(DJ_AT, 71, "Dj", Rule::OrMissing),
-    octet(72, "scanning mode", Rule::Raw),
+    octet(SCANNING_MODE_AT, "scanning mode", Rule::Raw),
 ];
 /// The first pole of 3.1 to 3.3 and what goes with it: an angle of rotation or a stretching factor.
 const POLE: &[Field] = &[
@@ -139,11 +140,20 @@ fn list_of(record: &Record, base_end: usize) -> List {
     }
 }
 
-/// Ni x Nj, or the sum of the list. Neither can pass 64 bits.
-fn points_by_counts(s: &[u8], record: &Record, list: List) -> u64 {
+/// Whether offset rows may be shorter than Ni: bit 8 of the scanning mode, where bit 1 is the most significant.
+pub fn rows_are_offset(scanning_mode: u8) -> bool {
+    scanning_mode & 1 != 0
+}
+
+/// Those that the section states are right: without a list Ni x Nj, or any where rows are offset; with one the sum of its numbers. Neither
+/// product nor sum can pass 64 bits.
+fn points_are_right(s: &[u8], record: &Record, list: List) -> bool {
+    let stated = record.number(POINTS_AT) as u64;
+    let mode = record.number(SCANNING_MODE_AT) as u8;
     match list.width {
-        0 => record.number(NI_AT) as u64 * record.number(NJ_AT) as u64,
-        _ => list.sum(s),
+        0 if rows_are_offset(mode) => true,
+        0 => stated == record.number(NI_AT) as u64 * record.number(NJ_AT) as u64,
+        _ => stated == list.sum(s),
     }
 }
 
@@ -157,11 +167,10 @@ pub fn read(s: &[u8]) -> Outcome<Grid> {
     refuse_if(!agree(&record), 10, SECTION)?;
     let list = list_of(&record, template.base_end);
     look_at_total(s, SECTION, list.total())?;
-    let points = record.number(POINTS_AT) as u64;
-    refuse_if(points != points_by_counts(s, &record, list), 13, SECTION)?;
+    refuse_if(!points_are_right(s, &record, list), 13, SECTION)?;
     Ok(Grid {
+        points: record.number(POINTS_AT) as u64,
         record,
-        points,
         list: (list.after, s.len() - list.after),
     })
 }
@@ -197,6 +206,24 @@ mod tests {
             Some(12)
         );
         assert_eq!(refusal(&four_by_three(13)), (13, 0));
+    }
+
+    #[test]
+    fn points_of_offset_rows() {
+        for mode in 0..=255 {
+            for points in [0, 11, 12, 13] {
+                let mut s = four_by_three(points);
+                s[71] = mode;
+                let read = read(&s).map(|grid| grid.points);
+                match mode % 2 == 1 || points == 12 {
+                    true => assert_eq!(read.ok(), Some(u64::from(points))),
+                    false => assert_eq!(read.err().map(|refusal| refusal.number), Some(13)),
+                }
+            }
+            let mut s = listed(13);
+            s[71] = mode;
+            assert_eq!(refusal(&s), (13, 0));
+        }
     }
 
     #[test]

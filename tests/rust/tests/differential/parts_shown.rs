@@ -18,8 +18,11 @@ fn section_for_parts(rng: &mut Rng) -> Vec<u8> {
             let length = rng.below(120);
             rng.octets(length)
         }
-        4 if rng.percent(50) => sections::section3_of_no_width(rng),
-        4 => sections::wrapped_section3(rng),
+        4 => match rng.below(3) {
+            0 => sections::section3_of_no_width(rng),
+            1 => sections::section3_of_other_points(rng),
+            _ => sections::wrapped_section3(rng),
+        },
         5..=16 => sections::section3(rng, size),
         _ => sections::section4(rng, size),
     };

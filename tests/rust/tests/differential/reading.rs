@@ -3,7 +3,8 @@ use crate::lent::{
     damaged_by_chance, difference_of_answers, exact, hex, places_about, report, Lent,
 };
 use crate::tally::{
-    template_kind, total_kind, Tally, AT_THE_LIMIT, BY_ONE_OCTET, GREATEST_PRODUCT,
+    points_kind, template_kind, total_kind, Beside, Tally, AT_THE_LIMIT, BY_ONE_OCTET,
+    GREATEST_PRODUCT,
 };
 use skogmund_tests::entries::{self, Answer};
 use skogmund_tests::generate::sections::{self, Size};
@@ -22,6 +23,7 @@ fn whole_section(rng: &mut Rng, section: u8) -> Vec<u8> {
         (1, _) => sections::section1(rng),
         (3, 0) => sections::section3_of_no_width(rng),
         (3, 1) => sections::wrapped_section3(rng),
+        (3, 2) => sections::section3_of_other_points(rng),
         (3, _) => sections::section3(rng, size),
         (4, _) => sections::section4(rng, size),
         (5, _) => sections::section5(rng, values, bits),
@@ -52,11 +54,22 @@ fn number_asked(rng: &mut Rng, section: u8) -> u8 {
     }
 }
 
-/// Whether this is a section 3 without a list whose Ni x Nj has all 64 bits, and is not the number of points.
-fn has_greatest_product(s: &[u8], refusal: Refusal) -> bool {
-    refusal.number == 13
-        && number(s, grid::WIDTH_AT, 11) == 0
-        && number(s, grid::NI_AT, 34) * number(s, grid::NJ_AT, 38) >= 1 << 63
+/// Of a section 3 that is accepted or has 13: its list, bit 8 of its scanning mode, and its points beside those that are counted.
+fn tally_points(tally: &mut Tally, s: &[u8], accepted: bool) {
+    let stated = number(s, grid::POINTS_AT, 10);
+    let counted = sections::counted_points(s);
+    let has_list = number(s, grid::WIDTH_AT, 11) != 0;
+    let beside = match stated {
+        _ if stated == counted => Beside::Equal,
+        0 => Beside::None,
+        _ if stated < counted => Beside::Below,
+        _ => Beside::Above,
+    };
+    let bit_8 = s[grid::SCANNING_MODE_AT - 1] % 2 == 1;
+    tally.kind(&points_kind(accepted, has_list, bit_8, beside));
+    if !accepted && !has_list && counted >= 1 << 63 {
+        tally.kind(GREATEST_PRODUCT);
+    }
 }
 
 /// Whether a section that has not its total differs from it by one octet. One that is too short would not be with another octet.
@@ -90,7 +103,7 @@ fn tally_read(tally: &mut Tally, asked: u8, s: &[u8], owed: &Outcome<Vec<i64>>) 
     tally.outcome("read", owed);
     let values = match owed {
         Ok(values) => values,
-        Err(refusal) if has_greatest_product(s, *refusal) => return tally.kind(GREATEST_PRODUCT),
+        Err(refusal) if refusal.number == 13 => return tally_points(tally, s, false),
         Err(refusal) if matches!(refusal.number, 11 | 21) => {
             return tally_total(tally, s, *refusal)
         }
@@ -98,6 +111,9 @@ fn tally_read(tally: &mut Tally, asked: u8, s: &[u8], owed: &Outcome<Vec<i64>>) 
     };
     if values.contains(&i64::MIN) {
         tally.kind("read: missing value");
+    }
+    if asked == 3 {
+        tally_points(tally, s, true);
     }
     // Behind the count: length, number, and then the template as the section has it.
     let template = match (asked, s.len()) {

@@ -161,6 +161,34 @@ pub fn total_kind(number: u8, section: u8, how: &str) -> String {
     format!("read: {number} of section {section} {how}")
 }
 
+/// The number of points that a section 3 states, beside Ni x Nj or the sum of its list.
+#[derive(Clone, Copy, Debug, PartialEq)]
+pub enum Beside {
+    Equal,
+    Above,
+    Below,
+    None,
+}
+
+pub fn points_kind(accepted: bool, has_list: bool, bit_8: bool, beside: Beside) -> String {
+    let answer = if accepted { "accepted" } else { "13" };
+    let list = if has_list { "a list" } else { "no list" };
+    let bit = if bit_8 { "set" } else { "clear" };
+    format!("read: {answer} with {list}, bit 8 {bit}, points {beside:?}")
+}
+
+/// Each list, bit and number of points, with the answer that document 01 has for it: the bit makes a difference without a list alone.
+fn every_points_kind() -> Vec<String> {
+    let mut kinds = vec![];
+    for beside in [Beside::Equal, Beside::Above, Beside::Below, Beside::None] {
+        let equal = beside == Beside::Equal;
+        kinds.extend([true, false].map(|bit_8| points_kind(equal, true, bit_8, beside)));
+        kinds.push(points_kind(true, false, true, beside));
+        kinds.push(points_kind(equal, false, false, beside));
+    }
+    kinds
+}
+
 /// 13 where Ni x Nj has all 64 bits.
 pub const GREATEST_PRODUCT: &str = "read: 13 for a product of all 64 bits";
 
@@ -176,7 +204,7 @@ pub fn template_kind(entry: &str, section: u8, template: u64) -> String {
     format!("{entry}: accepted {section}.{template}")
 }
 
-/// The kinds above, the total's refusals at their limits, each width of a row, each template of a section and those of messages.
+/// The kinds above, the total's refusals at their limits, the points, each width of a row, each template of a section and those of messages.
 fn every_kind() -> Vec<String> {
     let named = KINDS.iter().map(|kind| kind.to_string());
     let read = every_template().map(|(section, template)| template_kind("read", section, template));
@@ -187,6 +215,7 @@ fn every_kind() -> Vec<String> {
     });
     named
         .chain(by_total)
+        .chain(every_points_kind())
         .chain((0..=32).map(width_kind))
         .chain(read)
         .chain(shown)

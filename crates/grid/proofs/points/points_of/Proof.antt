@@ -2,7 +2,6 @@ use Rattle.octets.proofs.Free.{free}
 use Prim.Native.Nat.{_≤_}
 use denote.Ref.{now}
 use mathlib.Core.Path.{_∙_}
-use native.Mathlib.Nat.{mul-le-mul-right}
 use native.Mathlib.Omega.{arith}
 use borrow.Author.Needs.{needs}
 use borrow.Author.Tests.{eq-eqb, ne-eqb}
@@ -11,15 +10,9 @@ use Rattle.grid.proofs.Widths.{base-between, agreed-list}
 use Rattle.grid.proofs.points.points_of.Statement.{statement}
 use Rattle.grid.proofs.points.points_of.Tie as tie
 
-mul-result : tie.Need-mul-result
-mul-result c =
-    let nj = c .u32-at2 .result in
-    omega (arith, mul-le-mul-right {m = c .before .u32-at .result} {n = 4294967295} nj (omega arith))
-
 returns : tie.Need-returns
 unfolding pointsOf
-returns c h =
-    simp (← c .before .before .before .u8-at .ensures, eq-eqb _ _ (c .before .before .if1 .taken), ← c .before .u32-at .ensures, ← c .u32-at2 .ensures)
+returns c h = simp (← c .before .before .u8-at .ensures, eq-eqb _ _ (c .before .if1 .taken)) (c .points-without-list .ensures)
 
 cast-list-sum : tie.Need-cast-list-sum
 cast-list-sum c =
@@ -37,4 +30,4 @@ returns-2 c h =
     (c .list-sum .ensures (rw width listed) ∙ (λ i. sumOf (c .before .before .base-end .ensures i) (width i) s (c .before .list-count .ensures i)))
 
 pub points-of-spec : {M : Type 1} → statement M
-points-of-spec = tie.close (tie.spec free free free (λ c. search needs) (λ c. search needs) mul-result returns free cast-list-sum free free returns-2)
+points-of-spec = tie.close (tie.spec free free returns free cast-list-sum free free returns-2)
