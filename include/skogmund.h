@@ -46,7 +46,7 @@
 #define SKOGMUND_REFUSED_NO_RANGE 9       /* no time range: n is 0 */
 #define SKOGMUND_REFUSED_WIDTH 10         /* section 3's width, Ni, Nj, Di, Dj and octet 12 disagree */
 #define SKOGMUND_REFUSED_UNDER_TOTAL 11   /* shorter than the total (section 3 or 4); the place is the first octet that is not there */
-#define SKOGMUND_REFUSED_POINTS 13        /* the number of points is not Ni x Nj (any is taken with bit 8 of the scanning mode), or the list's sum */
+#define SKOGMUND_REFUSED_POINTS 13        /* the number of points is not Ni x Nj, without bit 8 of the scanning mode, or not the list's sum */
 #define SKOGMUND_REFUSED_VALUES 14        /* section 5's N is not section 3's number of points */
 #define SKOGMUND_REFUSED_DATA 15          /* section 7's length is not the one that N and the bits give */
 #define SKOGMUND_REFUSED_SLOT 16          /* a slot above 63 */

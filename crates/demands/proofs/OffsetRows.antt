@@ -15,14 +15,17 @@ use native.Mathlib.Omega.{arith}
 use mathlib.Core.Path.{_≡_, refl, sym, subst, _∙_}
 use mathlib.Core.Logic.{_↔_, _⊎_, inl, inr, ⊎-elim}
 use mathlib.Core.List.{List}
-use borrow.Author.Tests.{eq-eqb, ne-eqb}
+use borrow.Author.Tests.{eq-eqb, ne-eqb, eqb-false}
 use Rattle.octets.specs.Octets.{beAt}
 use Rattle.octets.proofs.Laws.{beAt-one}
 use Rattle.layout.specs.Fields.{Value}
 use Rattle.layout.specs.Outcomes.{Outcome, refused, read, firstOf}
 use Rattle.layout.specs.Totals.{RefusedWith}
 use Rattle.layout.specs.Examples.{AllAgree}
+use Rattle.layout.proofs.Totals.{other-number}
 use Rattle.identification.specs.Section1.{outcome₁}
+use Rattle.identification.specs.Refused.{table₁}
+use Rattle.identification.proofs.RefusalNumbers.{refuses₁}
 use Rattle.grid.specs.Section3.{told, outcome₃}
 use Rattle.grid.specs.Accepted.{Follows₃}
 use Rattle.grid.specs.OffsetRows.{OffsetRows, OtherPoints, outcomeBefore}
@@ -32,11 +35,17 @@ use Rattle.grid.specs.declared.templates.Template.{Template}
 use Rattle.grid.proofs.OffsetRows.{never-13, points-stand}
 use Rattle.grid.proofs.StarredGrids.{grids-agree}
 use Rattle.product.specs.Section4.{outcome₄}
+use Rattle.product.specs.Refused.{table₄}
+use Rattle.product.proofs.RefusalNumbers.{refuses₄}
 use Rattle.packing.specs.Packed.{bitAt}
-use Rattle.packing.specs.Section5.{outcome₅}
-use Rattle.field.specs.Field.{refusedField, onward, packedOutcome, fieldOutcome}
+use Rattle.packing.specs.Section5.{outcome₅, valuesAt, bitsAt}
+use Rattle.packing.specs.Section7.{outcome₇}
+use Rattle.packing.specs.Refused.{table₅, table₇}
+use Rattle.packing.proofs.RefusalNumbers.{refuses₅, refuses₇}
+use Rattle.field.specs.Field.{FieldOutcome, readField, onward, packedOutcome, fieldOutcome, fieldRefusal}
 use Rattle.demands.specs.Accepted.{Accepted}
 use Rattle.demands.proofs.Demand2.{section-3-accepted}
+use Rattle.demands.proofs.ShortOrLong.{never-refused}
 
 -- ---- "if bit 8 (the lowest) of the scanning mode in octet 72 is set": the last of the octet's eight bits, the most significant first, as section 7 has
 -- its bits
@@ -70,12 +79,33 @@ accepted-now s a e =
     ))
     (changed-here-only s)
 
--- ---- 14 compares N, octets 6-9 of section 5, with octets 7-10 of section 3, whatever the bit
+-- ---- so of a field: what its sections are not refused with, it is not
 
-pub fourteen-given : (s1 s3 s4 s5 s7 : List ℕ) (one three four five : List Value) → outcome₁ s1 ≡ read one → outcome₃ s3 ≡ read three → outcome₄ s4 ≡ read four → outcome₅ s5 ≡ read five
-    → (beAt s5 6 4 ≡ beAt s3 7 4 → ⊥) → fieldOutcome s1 s3 s4 s5 s7 ≡ refusedField 14 5 0
+not-onward : (number : ℕ) (o : Outcome) (next : List Value → FieldOutcome) → (RefusedWith number o → ⊥) → ((vs : List Value) → fieldRefusal (next vs) .number ≡ number → ⊥) → fieldRefusal (onward o next) .number ≡ number → ⊥
+unfolding onward
+not-onward number (refused n section place) next here behind = here
+not-onward number (read vs) next here behind = behind vs
+
+pub field-without-13 : (s1 s3 s4 s5 s7 : List ℕ) → OffsetRows s3 → fieldRefusal (fieldOutcome s1 s3 s4 s5 s7) .number ≡ 13 → ⊥
+unfolding fieldOutcome packedOutcome
+field-without-13 s1 s3 s4 s5 s7 offset =
+    let seven = outcome₇ (valuesAt s5) (bitsAt s5) s7 in
+    not-onward 13 (outcome₁ s1) _ (never-refused 13 table₁ (outcome₁ s1) refl (refuses₁ s1))
+    (λ one. not-onward 13 (outcome₃ s3) _ (never-13 s3 offset)
+    (λ three. not-onward 13 (outcome₄ s4) _ (never-refused 13 table₄ (outcome₄ s4) refl (refuses₄ s4))
+    (λ four. not-onward 13 (outcome₅ s5) _ (never-refused 13 table₅ (outcome₅ s5) refl (refuses₅ s5))
+    (λ five. not-onward 13 _ _
+    (other-number 13 5 14 _ seven (eqb-false 14 13 refl) (never-refused 13 table₇ seven refl (refuses₇ (valuesAt s5) (bitsAt s5) s7)))
+    (λ vs. eqb-false 0 13 refl)))))
+
+-- and 14 compares N, octets 6-9 of section 5, with octets 7-10 of section 3, whatever the bit
+pub fourteen-exactly : (s1 s3 s4 s5 s7 : List ℕ) (one three four five : List Value) → outcome₁ s1 ≡ read one → outcome₃ s3 ≡ read three → outcome₄ s4 ≡ read four → outcome₅ s5 ≡ read five
+    → (fieldRefusal (fieldOutcome s1 s3 s4 s5 s7) .number ≡ 14) ↔ (beAt s5 6 4 ≡ beAt s3 7 4 → ⊥)
 unfolding fieldOutcome packedOutcome onward firstOf
-fourteen-given s1 s3 s4 s5 s7 one three four five first third fourth fifth differ = simp (first, third, fourth, fifth, ne-eqb _ _ differ)
+fourteen-exactly s1 s3 s4 s5 s7 one three four five first third fourth fifth =
+    let seven = outcome₇ (valuesAt s5) (bitsAt s5) s7 in
+    let not-14 = not-onward 14 seven (λ vs. readField one three four five) (never-refused 14 table₇ seven refl (refuses₇ (valuesAt s5) (bitsAt s5) s7)) (λ vs. eqb-false 0 14 refl) in
+    ((λ e same. not-14 (simp (first, third, fourth, fifth, eq-eqb _ _ same) at e)), (λ differ. simp (first, third, fourth, fifth, ne-eqb _ _ differ)))
 
 -- ---- and by single sections: each template, the highest bit and the lowest, points above, below and 0, with and without a list
 

@@ -120,7 +120,7 @@ section-3-points-last template s a e names = by (three.told a) (section-3-by-tot
 
 -- sections 1 and 5 that are shorter than their total are caught by 7 at the latest, and get no 11; section 7 gets neither, and keeps its 15
 
-never-refused : (number : ℕ) (table : List Row) (o : Outcome) → lacks number table ≡ true → Refuses table o → RefusedWith number o → ⊥
+pub never-refused : (number : ℕ) (table : List Row) (o : Outcome) → lacks number table ≡ true → Refuses table o → RefusedWith number o → ⊥
 never-refused number table (refused n section place) l r e = never-listed number table section l (rw e at (r .listed))
 never-refused number table (read vs) l r e = e
 

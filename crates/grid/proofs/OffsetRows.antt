@@ -78,11 +78,8 @@ module _ (s : List ℕ) (offset : OffsetRows s) where
   pub never-13 : RefusedWith 13 (outcome₃ s) → ⊥
   unfolding AllOther openingReasons templateReasons fittingReasons totalReasons
   never-13 =
-      let own = either (λ (n : ℕ). n ≡ 13 → ⊥) (not (agreed s)) {x = 10} {y = 0} (λ e. omega (arith, e)) (λ e. omega (arith, e)) in
-      rw offset-outcome
-      (other-numbers 13 3 (earlier s) (read (values₃ (templateNamed s) s))
-      ((λ e. omega (arith, e)), ((λ e. omega (arith, e)), ((λ e. omega (arith, e)), ((λ e. omega (arith, e)), ((λ e. omega (arith, e)), ((λ e. omega (arith, e)), ((λ e. omega (arith, e)), ((λ e. omega (arith, e)), (own, ((λ e. omega (arith, e)), ((λ e. omega (arith, e)), tt)))))))))))
-      (λ e. e))
+      let own = either (λ (n : ℕ). n ≡ 13 → ⊥) (not (agreed s)) {x = 10} {y = 0} (eqb-false 10 13 refl) (eqb-false 0 13 refl) in
+      rw offset-outcome (other-numbers 13 3 (earlier s) (read (values₃ (templateNamed s) s)) (search (eqb-false, own)) (λ e. e))
 
   -- before, 13 was met where the points are not Ni x Nj
   outcome-before : (beAt s 7 4 ≡ beAt s 31 4 * beAt s 35 4 → ⊥) → outcomeBefore s ≡ firstOf 3 (earlier s) (refused 13 3 0)

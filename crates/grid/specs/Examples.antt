@@ -10,6 +10,7 @@ use Rattle.layout.specs.Fields.{Value, none, wholeIn}
 use Rattle.layout.specs.Examples.{Example, answered, refusedAt, filledUp, put}
 use Rattle.grid.specs.Section3.{outcome₃}
 use Rattle.grid.specs.Views.{list₃}
+use Rattle.grid.specs.OffsetRows.{outcomeBefore}
 
 -- octets 1 to 14: length, number, source, points, list width, list interpretation, template number
 abbrev pub exampleHead : List ℕ
@@ -92,7 +93,7 @@ abbrev pub isRead : ℕ → List ℕ → Example
 isRead points s = record { made = answered pointsRead (outcome₃ s); stated = pos points ∷ [] }
 
 -- twelve points are Ni x Nj; the lowest bit, 1, lets others stand, in each template; the highest, 128, does not, nor do all others together; with a
--- list it is the sum all the same
+-- list it is the sum all the same; and before the request the lowest bit made no difference
 abbrev pub offsetRows₃ : List Example
 offsetRows₃ =
     isRead 12 (fourByThree 72 0 12 0)
@@ -109,4 +110,5 @@ offsetRows₃ =
     ∷ isRead 13 (fourByThree 72 0 13 255)
     ∷ isRead 14 (put 72 1 exampleSection)
     ∷ isRefused 13 0 (put 72 1 (put 10 13 exampleSection))
+    ∷ refusedAt 13 3 0 (outcomeBefore (fourByThree 72 0 13 1))
     ∷ []

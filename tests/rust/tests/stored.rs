@@ -1,5 +1,5 @@
 //! The stored cases. That the reference answers what it wrote itself shows nothing; so here it is held to what others say: an independent
-//! decoder's answers to 42 messages, document 01's listing, what was known beforehand of a case (which working the cases out compares), and
+//! decoder's answers to 46 messages, document 01's listing, what was known beforehand of a case (which working the cases out compares), and
 //! what has to hold of every queue and of every message. That the files are as they would be written: `cases --check`.
 use skogmund_tests::cases::{self, decoded, Asked, EXAMPLE_CONTENTS, EXAMPLE_LISTING};
 use skogmund_tests::examples::message_sections;
@@ -22,7 +22,9 @@ fn stored(name: &str) -> Vec<u8> {
 #[test]
 fn messages_of_an_independent_decoder() {
     let messages = decoded::messages();
-    assert_eq!(messages.len(), 42);
+    assert_eq!(messages.len(), 46);
+    let fields = messages.iter().flat_map(|message| &message.fields);
+    assert_eq!(fields.filter(|field| field.has_offset_rows()).count(), 4);
     let gathered = decoded::gathered();
     assert!(gathered[0].1.ends_with("\nfields 16\n"));
     let answers = messages.iter().flat_map(|message| message.answers());

@@ -5,7 +5,7 @@
 //! again here: it takes the scaled values of surfaces, limits and sizes, the year beside an offset and the longitude of the southern pole
 //! as unsigned, and it has one name for the scale factor and the value of the cluster's distance, which are taken from the octets. It has
 //! cut-off minutes of 255 as missing, which are raw here. Template 4.67, which three messages have, is not listed, so that their section 4
-//! is refused with 6, and with it the message.
+//! is refused with 6, and with it the message. The messages with offset rows, `ec_3_…_offset`, are made by `cases/offset_rows`.
 use super::answer::{list, lists, row, written};
 use super::{Asked, Cases};
 use crate::generate::messages::framed;
@@ -407,6 +407,12 @@ impl Field {
 
     fn has_listed_template(&self) -> bool {
         self.number(PRODUCT_TEMPLATE) != 67
+    }
+
+    /// Whether the decoder has another number of points than Ni x Nj, without a list.
+    pub fn has_offset_rows(&self) -> bool {
+        let product = self.keys["Ni"].zip(self.keys["Nj"]).map(|(ni, nj)| ni * nj);
+        self.number(LIST_WIDTH) == 0 && product != Some(self.number(POINTS))
     }
 
     /// The sections, one behind the other.
