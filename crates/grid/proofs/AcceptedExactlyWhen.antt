@@ -92,7 +92,7 @@ module _ (template : Template) (s : List ℕ) (width : listWidth s ≡ 0) where
   total-without : total template s ≡ baseEnd template
   total-without = rw (width, zero-mul) (omega arith)
 
-  points-without : pointsOf template s ≡ pointsWithoutList s
+  pub points-without : pointsOf template s ≡ pointsWithoutList s
   unfolding pointsOf
   points-without = rw width
 
@@ -110,7 +110,7 @@ module _ (template : Template) (s : List ℕ) (width : hasList (listWidth s) ≡
   points-listed = simp (listed-not-0 _ width)
 
 -- without a list: bit 8 of the scanning mode is set, or the points are Ni x Nj
-bit-or-product : (s : List ℕ) → beAt s 7 4 ≡ pointsWithoutList s → (beAt s 72 1 % 2 ≡ 1) ⊎ (beAt s 7 4 ≡ ni s * nj s)
+pub bit-or-product : (s : List ℕ) → beAt s 7 4 ≡ pointsWithoutList s → (beAt s 72 1 % 2 ≡ 1) ⊎ (beAt s 7 4 ≡ ni s * nj s)
 unfolding pointsWithoutList
 bit-or-product s = by (eqb (beAt s 72 1 % 2) 1) refl
   where
@@ -118,7 +118,7 @@ bit-or-product s = by (eqb (beAt s 72 1 % 2) 1) refl
     by true b e = inl (eqb-true _ _ b)
     by false b e = inr e
 
-by-bit-or-product : (s : List ℕ) → (beAt s 72 1 % 2 ≡ 1) ⊎ (beAt s 7 4 ≡ ni s * nj s) → beAt s 7 4 ≡ pointsWithoutList s
+pub by-bit-or-product : (s : List ℕ) → (beAt s 72 1 % 2 ≡ 1) ⊎ (beAt s 7 4 ≡ ni s * nj s) → beAt s 7 4 ≡ pointsWithoutList s
 unfolding pointsWithoutList
 by-bit-or-product s (inl b) = rw (eq-eqb _ _ b)
 by-bit-or-product s (inr e) = either (λ n. beAt s 7 4 ≡ n) (eqb (beAt s 72 1 % 2) 1) refl e

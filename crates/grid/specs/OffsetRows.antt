@@ -1,5 +1,5 @@
--- Grids with offset rows, of request 03: without a list and with bit 8 of the scanning mode, octets 7-10 stand as they are. Beside it section 3's
--- outcome as it was before that request, only for the theorems on what the request changed (`proofs/OffsetRows.antt`): no contract cites it.
+-- Request 03, grids with offset rows: without a list and with bit 8 of the scanning mode, octets 7-10 stand as they are. Beside it section 3's outcome
+-- as it was before that request. All of it is only for the theorems on what the request changed (`proofs/OffsetRows.antt`): no contract cites it.
 -- Assumes nothing.
 use Prim.Native.Nat.{ℕ, _*_, _%_}
 use mathlib.Core.Path.{_≡_}
@@ -17,7 +17,7 @@ use Rattle.grid.specs.Section3.{outcome₃}
 use Rattle.grid.specs.declared.templates.Template.{Template}
 
 -- no list, and bit 8 of the scanning mode in octet 72, the lowest, is set
-pub record OffsetRows (s : List ℕ) : Type 0 where
+pub record PointsStand (s : List ℕ) : Type 0 where
   pub no-list : beAt s 11 1 ≡ 0
   pub bit : beAt s 72 1 % 2 ≡ 1
 
@@ -46,7 +46,7 @@ outcomeBefore s =
 
 -- a section that was refused with 13 for its Ni x Nj, and is read now
 pub record Freed (s : List ℕ) : Type 0 where
-  pub offset : OffsetRows s
+  pub stand : PointsStand s
   pub differ : beAt s 7 4 ≡ beAt s 31 4 * beAt s 35 4 → ⊥
   pub before : outcomeBefore s ≡ refused 13 3 0
   pub now : outcome₃ s ≡ read (values₃ (templateNamed s) s)

@@ -1,4 +1,4 @@
--- 13: the points are Ni x Nj, or octets 7-10 as they stand where rows are offset, or the sum of the list.
+-- 13: the points are Ni x Nj, or, with bit 8 of the scanning mode, octets 7-10 as they stand, or the sum of the list.
 -- Assumes nothing.
 use Prim.Native.Nat.{ℕ, zero, suc, _+_, _*_, _%_}
 use mathlib.Core.List.{List, [], _∷_}
@@ -18,7 +18,7 @@ sumOf end width s (suc n) = sumOf end width s n + beAt s (end + 1 + width * n) w
 unfoldable pub pointsWithoutList : List ℕ → ℕ
 pointsWithoutList s = cond (eqb (beAt s 72 1 % 2) 1) (beAt s 7 4) (ni s * nj s)
 
--- these, or the sum of the list
+-- the points without a list, or the sum of the list
 unfoldable pub pointsOf : Template → List ℕ → ℕ
 pointsOf template s = cond (eqb (listWidth s) 0) (pointsWithoutList s) (sumOf (baseEnd template) (listWidth s) s (listCount s))
 

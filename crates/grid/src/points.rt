@@ -1,4 +1,4 @@
-// 13: the points are Ni x Nj, or octets 7-10 as they stand where rows are offset, or the sum of the list.
+// 13: the points are Ni x Nj, or, with bit 8 of the scanning mode, octets 7-10 as they stand, or the sum of the list.
 ghost use mathlib.Core.Path.{_≡_};
 ghost use mathlib.Core.Bool.{true};
 ghost use Rattle.octets.specs.Octets.{beAt};
@@ -21,7 +21,7 @@ pub(crate) fn points_refusal(section: &[u8], template: Template) -> Refusal
     Refusal::none()
 }
 
-// What octets 7-10 have to be: without a list by the counts and the scanning mode, or the sum of the list.
+// What octets 7-10 have to be: the sum of the list, or what they have to be without one.
 fn points_of(section: &[u8], template: Template) -> u64
     ensures { λ r. ⌜ (agreed (now (section .entry)) ≡ true → r ≡ pointsOf template (now (section .entry))) ⌝ }
 {
@@ -37,7 +37,7 @@ fn points_of(section: &[u8], template: Template) -> u64
     )
 }
 
-// Octets 7-10 themselves where bit 8 of the scanning mode, the lowest, is set: rows that are offset may be shorter than Ni.
+// Octets 7-10 themselves where bit 8 of the scanning mode, the lowest, is set: offset rows may then have fewer points than Ni.
 // Else Ni x Nj, below 2^64 as a product of two numbers of 32 bits.
 fn points_without_list(section: &[u8]) -> u64
     ensures { λ r. ⌜ r ≡ pointsWithoutList (now (section .entry)) ⌝ }

@@ -2,7 +2,8 @@
 -- Assumes nothing.
 use Prim.Native.Nat.{ℕ, _+_, _<_, _≤_}
 use native.Mathlib.Omega.{arith}
-use mathlib.Core.Path.{_≡_, refl, sym, subst}
+use mathlib.Core.Path.{_≡_, refl, sym, subst, _∙_}
+use mathlib.Core.Logic.{⊎-elim}
 use mathlib.Core.List.{List, [], _∷_}
 use mathlib.Core.Bool.{Bool, true, false, not, cond}
 use lib.Dec.{ltb, eqb}
@@ -10,7 +11,7 @@ use lib.ListN.{length}
 use borrow.Author.Tests.{lt-ltb, le-ltb, ltb-true, ltb-false}
 use Rattle.layout.specs.Outcomes.{Outcome, refused, Reason, reason, badField, firstOf, openingReasons, totalReasons, fittingReasons, templateReasons}
 use Rattle.layout.specs.Totals.{NoLower, RefusedWith, ByTotal}
-use Rattle.layout.proofs.Outcomes.{NoneHold, none-last, either}
+use Rattle.layout.proofs.Outcomes.{NoneHold, none-last, same-or-none, either}
 use Rattle.layout.proofs.Ranges.{same-test}
 
 -- ---- by the total's own reasons, if what follows them is refused with neither
@@ -98,6 +99,13 @@ template-by-total section smallest bad own total s rest small not-11 not-21 =
     behind-lower (ByTotal section total s) section (lower smallest bad own s) (firstOf section (totalReasons total s) rest)
     (omega arith, (omega arith, (small, tt))) (λ n. by-reasons section total s rest not-11 not-21)
 
+-- where no lower refusal is given and the section has its total, what follows decides
+pub template-whole : (section smallest bad own total : ℕ) (s : List ℕ) (rest : Outcome) → own < 11 → length s ≡ total → NoLower (firstOf section (templateReasons smallest bad own total s) rest) → firstOf section (templateReasons smallest bad own total s) rest ≡ rest
+unfolding firstOf AllLower NoneHold templateReasons fittingReasons totalReasons
+template-whole section smallest bad own total s rest small whole =
+    behind-lower (λ (o : Outcome). o ≡ rest) section (lower smallest bad own s) (firstOf section (totalReasons total s) rest) (omega arith, (omega arith, (small, tt)))
+    (λ n. none-last section (totalReasons total s) rest (le-ltb (length s) total (omega arith), (le-ltb total (length s) (omega arith), tt)))
+
 -- and where none of these holds
 pub fits-by-total : (section smallest bad own total : ℕ) (s : List ℕ) (rest : Outcome) → smallest ≤ length s → bad ≡ 0 → own ≡ 0 → (RefusedWith 11 rest → ⊥) → (RefusedWith 21 rest → ⊥)
     → ByTotal section total s (firstOf section (templateReasons smallest bad own total s) rest)
@@ -110,13 +118,8 @@ fits-by-total section smallest bad own total s rest enough in-range own-kept not
 
 -- a refusal of these reasons that is lower than what follows them is given whatever follows
 lower-kept : (section : ℕ) (rs : List Reason) (o o′ : Outcome) (number place : ℕ) → NoLower o → number < 11 → firstOf section rs o ≡ refused number section place → firstOf section rs o′ ≡ refused number section place
-unfolding firstOf
-lower-kept section [] o o′ number place n l e = absurd (omega (arith, l, subst NoLower e n))
-lower-kept section (r ∷ rs) o o′ number place n l e = by-holding (r .holds) (lower-kept section rs o o′ number place n l) e
-  where
-    by-holding : (t : Bool) → (firstOf section rs o ≡ refused number section place → firstOf section rs o′ ≡ refused number section place) → cond t (refused (r .number) section (r .place)) (firstOf section rs o) ≡ refused number section place → cond t (refused (r .number) section (r .place)) (firstOf section rs o′) ≡ refused number section place
-    by-holding true q e = e
-    by-holding false q e = q e
+lower-kept section rs o o′ number place n l e =
+    ⊎-elim (λ same. sym same ∙ e) (λ none. absurd (omega (arith, l, subst NoLower (sym (none-last section rs o none) ∙ e) n))) (same-or-none section rs o o′)
 
 -- the total's own reasons are not lower
 total-not-lower : (section total : ℕ) (s : List ℕ) (rest : Outcome) → NoLower rest → NoLower (firstOf section (totalReasons total s) rest)

@@ -5,7 +5,9 @@ use super::section1::{self, of_template, with_years};
 use super::section3::{grid, with_list, Grid, Without};
 use super::section4::smallest;
 use super::section5::{five, seven};
-use super::shelves::{good, good_but, FIVE, FOUR, ONE, SEVEN, THREE};
+use super::shelves::{
+    eleven, good, good_but, EVEN_ROWS, FIVE, FOUR, ONE, SEVEN, SHORTER_EVEN_ROWS, THREE,
+};
 use super::{Asked, Cases};
 use crate::examples::message_sections;
 use crate::generate::messages::{close_message, framed, group, message, Field, Sections};
@@ -90,15 +92,6 @@ fn fourteen() -> Field {
     ])
 }
 
-/// Eleven points of rows that are offset, with this scanning mode, where Ni x Nj is twelve.
-fn eleven(mode: u64) -> Field {
-    good_but(&[
-        (THREE, grid(0).scanned(mode, 11)),
-        (FIVE, five(11, 3)),
-        (SEVEN, seven(&[7; 5])),
-    ])
-}
-
 fn of_five_octets(number: u8) -> Vec<u8> {
     vec![0, 0, 0, 5, number]
 }
@@ -141,13 +134,14 @@ fn groups(cases: &mut Messages) {
     let shows = "a section 3 in force over several groups";
     cases.stated(shows, several_groups(), SEVERAL_GROUPS);
     let shows = "offset rows over two groups, and then twelve values of them";
-    let offset = [(3, eleven(65)), (4, eleven(65))];
+    let offset = [3, 4].map(|from| (from, eleven(SHORTER_EVEN_ROWS)));
     let stated = "\n2 2024 3 7 18 30 45 0 0 11 3 17 21 38 72 181 34 215 21 242 10\nfields 2\n";
     cases.stated(shows, framed(&grouped(&offset)), stated);
     let sections = grouped(&[offset[0].clone(), (4, good())]);
     cases.stated(shows, framed(&sections), "refused 14 5 0\n");
-    let sections = grouped(&[(3, eleven(64))]);
-    cases.stated("no row is offset", framed(&sections), "refused 13 3 0\n");
+    let shows = "offset rows without bit 8 of the scanning mode";
+    let sections = grouped(&[(3, eleven(EVEN_ROWS))]);
+    cases.stated(shows, framed(&sections), "refused 13 3 0\n");
     let shows = "a field of twelve values where fourteen points are in force";
     let sections = grouped(&[(3, good()), (3, fourteen()), (4, good())]);
     cases.stated(shows, framed(&sections), "refused 14 5 0\n");

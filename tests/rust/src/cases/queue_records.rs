@@ -5,7 +5,9 @@ use super::section1::{self, of_template, plain, with_years};
 use super::section3::{grid, with_list, Grid, Without};
 use super::section4::{self, smallest, with_numbers};
 use super::section5::{five, seven};
-use super::shelves::{good, good_but, FIVE, FOUR, ONE, SEVEN, THREE};
+use super::shelves::{
+    eleven, good, good_but, EVEN_ROWS, FIVE, FOUR, ONE, SEVEN, SHORTER_EVEN_ROWS, THREE,
+};
 
 /// A record of a good field, but for the sections that are given.
 pub fn filed(slot: u64, issue: impl Into<Option<u32>>, given: &[(usize, Vec<u8>)]) -> Vec<u8> {
@@ -216,15 +218,13 @@ fn greatest_product(cases: &mut Queues) {
     cases.stated(shows, queue, "\n1 5 0 refused 13 3 0\n");
 }
 
-/// Eleven points of rows that are offset, where Ni x Nj is twelve: N is octets 7-10 of section 3.
+/// Offset rows: N is octets 7-10 of section 3, and not Ni x Nj.
 fn offset_rows(cases: &mut Queues) {
-    let three = |mode| (THREE, grid(0).scanned(mode, 11));
-    let eleven = [(FIVE, five(11, 3)), (SEVEN, seven(&[0, 1, 2, 3, 4]))];
-    let [five, seven] = eleven;
+    let eleven = |slot, mode| record(slot, Some(0), &eleven(mode).concat());
     let queue = queue_of(&[
-        filed(5, 0, &[three(65), five.clone(), seven.clone()]),
-        filed(6, 0, &[three(65)]),
-        filed(7, 0, &[three(64), five, seven]),
+        eleven(5, SHORTER_EVEN_ROWS),
+        filed(6, 0, &[(THREE, grid(0).scanned(SHORTER_EVEN_ROWS, 11))]),
+        eleven(7, EVEN_ROWS),
         plainly(8),
     ]);
     let fates = "\n1 5 0 kept\n2 6 0 refused 14 5 0\n3 7 0 refused 13 3 0\n4 8 0 kept\n";

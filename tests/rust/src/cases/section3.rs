@@ -477,56 +477,65 @@ fn points(cases: &mut Cases) {
     }
 }
 
+const WITH_BIT_8: [u64; 7] = [1, 5, 9, 65, 127, 129, 255];
+const WITHOUT_BIT_8: [u64; 7] = [0, 2, 4, 8, 64, 128, 254];
+
 /// Bit 8 of the scanning mode is the lowest. Set and without a list, octets 7-10 stand as they are.
-fn offset_rows(cases: &mut Cases) {
+fn bit_8(cases: &mut Cases) {
+    let read = |points| format!("read 26 72 3 0 {points} ");
     let mut case = |shows: &str, s, stated: &str| {
         cases.stated(shows, Asked::Section(3, s), stated);
     };
-    for (t, values, base_end) in [(0, 26, 72), (1, 29, 84), (2, 29, 84), (3, 32, 96)] {
-        for points in [0, 11, 12, 13, ONES] {
-            let read = format!("read {values} {base_end} 3 0 {points} ");
-            for mode in [1, 5, 9, 65, 127, 129, 255] {
-                let shows = "offset rows: any points with bit 8 of the scanning mode";
-                case(shows, grid(t).scanned(mode, points), &read);
-            }
-            let stated = if points == 12 {
-                &read
-            } else {
-                "refused 13 3 0 "
-            };
-            for mode in [0, 2, 4, 8, 64, 128, 254] {
-                let shows = "offset rows: Ni x Nj without bit 8, whatever the others";
-                case(shows, grid(t).scanned(mode, points), stated);
-            }
-        }
+    let points = [0, 11, 12, 13, ONES];
+    for (mode, points) in pairs(&WITH_BIT_8, &points) {
+        let shows = "bit 8 of the scanning mode set: any points";
+        case(shows, grid(0).scanned(mode, points), &read(points));
     }
+    for (mode, points) in pairs(&WITHOUT_BIT_8, &points) {
+        let shows = "bit 8 of the scanning mode clear, whatever the others: Ni x Nj";
+        let right = read(12);
+        let stated = if points == 12 {
+            &right
+        } else {
+            "refused 13 3 0 "
+        };
+        case(shows, grid(0).scanned(mode, points), stated);
+    }
+    for (t, values, base_end) in [(1, 29, 84), (2, 29, 84), (3, 32, 96)] {
+        let shows = "bit 8 of the scanning mode in the other templates";
+        let stated = format!("read {values} {base_end} 3 0 13 ");
+        case(shows, grid(t).scanned(1, 13), &stated);
+        case(shows, grid(t).scanned(254, 13), "refused 13 3 0 ");
+    }
+    let shows = "bit 8 of the scanning mode with a list: its sum";
     for grid in with_each_list() {
-        for (points, stated) in [(14, " 3 0 14 "), (13, "refused 13 3 0 ")] {
-            let shows = "offset rows: the sum of the list, also with bit 8";
-            case(shows, grid.clone().scanned(1, points), stated);
-        }
+        case(shows, grid.clone().scanned(1, 14), " 3 0 14 ");
+        case(shows, grid.scanned(1, 13), "refused 13 3 0 ");
     }
     for points in [0, 12, 15, ONES] {
-        let shows = "offset rows: the sum of the list, also with bit 8";
         case(shows, document(2).scanned(255, points), "refused 13 3 0 ");
     }
-    before_offset_rows(cases);
+}
+
+fn pairs<'a>(modes: &'a [u64], points: &'a [u64]) -> impl Iterator<Item = (u64, u64)> + 'a {
+    let with_points = move |&mode| points.iter().map(move |&points| (mode, points));
+    modes.iter().flat_map(with_points)
 }
 
 /// Reasons that come before 13 are met with bit 8 as without it.
-fn before_offset_rows(cases: &mut Cases) {
+fn before_bit_8(cases: &mut Cases) {
     let no_ni = Grid {
         ni: ONES,
         ..grid(0)
     };
     let no_nj = Grid { nj: 0, ..grid(0) };
     for (s, stated) in [
-        (sized(&grid(0).scanned(1, 13), 71), "refused 7 3 0 "),
+        (sized(&grid(1).scanned(1, 13), 83), "refused 7 3 0 "),
         (no_nj.scanned(1, 13), "refused 8 3 35 "),
         (no_ni.scanned(1, 13), "refused 10 3 0 "),
         (sized(&grid(0).scanned(1, 13), 73), "refused 21 3 73 "),
     ] {
-        let shows = "offset rows: the reasons before 13";
+        let shows = "bit 8 of the scanning mode: the reasons before 13";
         cases.stated(shows, Asked::Section(3, s), stated);
     }
     let most = Grid {
@@ -534,7 +543,7 @@ fn before_offset_rows(cases: &mut Cases) {
         nj: ONES - 1,
         ..grid(0)
     };
-    let shows = "offset rows: the greatest counts";
+    let shows = "bit 8 of the scanning mode: the greatest counts";
     let s = most.scanned(1, 12);
     cases.stated(shows, Asked::Section(3, s), "read 26 72 3 0 12 ");
 }
@@ -627,7 +636,8 @@ pub fn add(cases: &mut Cases) {
     agreement(cases);
     totals(cases);
     points(cases);
-    offset_rows(cases);
+    bit_8(cases);
+    before_bit_8(cases);
     listed_numbers(cases);
     several(cases);
 }

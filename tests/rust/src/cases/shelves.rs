@@ -41,6 +41,19 @@ pub fn good_but(given: &[(usize, Vec<u8>)]) -> Sections {
     sections
 }
 
+/// Scanning modes: even rows are offset, and with bit 8 they have a point less.
+pub const EVEN_ROWS: u64 = 64 + 4;
+pub const SHORTER_EVEN_ROWS: u64 = EVEN_ROWS + 1;
+
+/// A field of eleven points, where Ni is 4 and Nj is 3: as many as there are where even rows have a point less.
+pub fn eleven(mode: u64) -> Sections {
+    good_but(&[
+        (THREE, grid(0).scanned(mode, 11)),
+        (FIVE, five(11, 3)),
+        (SEVEN, seven(&[7; 5])),
+    ])
+}
+
 fn filed(slot: u64, issue: impl Into<Option<u32>>, given: &[(usize, Vec<u8>)]) -> Asked {
     Asked::Filing(slot, issue.into(), good_but(given))
 }

@@ -173,7 +173,7 @@ pub fn counted_points(s: &[u8]) -> u64 {
     listed.map(|one| number(one, 1, width)).sum()
 }
 
-/// Others than these: above, below or none. No points stay none, or get more.
+/// Mostly others than these: above, below or none.
 fn other_points(rng: &mut Rng, points: u64) -> u64 {
     let few = rng.within(1, 3) as u64;
     match rng.below(3) {
@@ -183,10 +183,10 @@ fn other_points(rng: &mut Rng, points: u64) -> u64 {
     }
 }
 
-/// Points of a grid without a list: Ni x Nj, and others as well where the scanning mode says that rows are offset.
+/// Points of a grid without a list: Ni x Nj, and others as well where bit 8 of the scanning mode is set.
 fn points_without_list(rng: &mut Rng, s: &[u8], product: u64) -> u64 {
     let mode = s[grid::SCANNING_MODE_AT - 1];
-    match grid::rows_are_offset(mode) && rng.percent(75) {
+    match grid::bit_8_is_set(mode) && rng.percent(75) {
         true => other_points(rng, product),
         false => product,
     }
@@ -256,7 +256,7 @@ pub fn section3(rng: &mut Rng, size: Size) -> Vec<u8> {
     s
 }
 
-/// Section 3 with other points than it had: 13 where there is a list, or no row is offset.
+/// Section 3 with other points than it had: 13 where there is a list, or bit 8 of the scanning mode is clear.
 pub fn section3_of_other_points(rng: &mut Rng) -> Vec<u8> {
     let mut s = section3(rng, Size::Small);
     let others = other_points(rng, points(&s));
@@ -264,8 +264,8 @@ pub fn section3_of_other_points(rng: &mut Rng) -> Vec<u8> {
     s
 }
 
-/// Section 3 whose points are right but for a multiple of 2^32: 13 where there is a list, or no row is offset, for a reader whose products or
-/// sums wrap.
+/// Section 3 whose points are right but for a multiple of 2^32: 13 where there is a list, or bit 8 of the scanning mode is clear. A reader
+/// whose products or sums wrap would accept it.
 pub fn wrapped_section3(rng: &mut Rng) -> Vec<u8> {
     let mut s = section3(rng, Size::Small);
     let points = if number(&s, grid::WIDTH_AT, 11) == 4 {

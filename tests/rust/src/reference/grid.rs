@@ -140,18 +140,18 @@ fn list_of(record: &Record, base_end: usize) -> List {
     }
 }
 
-/// Whether offset rows may be shorter than Ni: bit 8 of the scanning mode, where bit 1 is the most significant.
-pub fn rows_are_offset(scanning_mode: u8) -> bool {
+/// Bit 1 is the most significant.
+pub fn bit_8_is_set(scanning_mode: u8) -> bool {
     scanning_mode & 1 != 0
 }
 
-/// Those that the section states are right: without a list Ni x Nj, or any where rows are offset; with one the sum of its numbers. Neither
-/// product nor sum can pass 64 bits.
+/// Whether those that the section states are right: with a list the sum of its numbers; without one Ni x Nj, or any number where bit 8 of
+/// the scanning mode is set. Neither product nor sum can pass 64 bits.
 fn points_are_right(s: &[u8], record: &Record, list: List) -> bool {
     let stated = record.number(POINTS_AT) as u64;
     let mode = record.number(SCANNING_MODE_AT) as u8;
     match list.width {
-        0 if rows_are_offset(mode) => true,
+        0 if bit_8_is_set(mode) => true,
         0 => stated == record.number(NI_AT) as u64 * record.number(NJ_AT) as u64,
         _ => stated == list.sum(s),
     }
@@ -209,7 +209,7 @@ mod tests {
     }
 
     #[test]
-    fn points_of_offset_rows() {
+    fn points_by_bit_8() {
         for mode in 0..=255 {
             for points in [0, 11, 12, 13] {
                 let mut s = four_by_three(points);
@@ -220,9 +220,10 @@ mod tests {
                     false => assert_eq!(read.err().map(|refusal| refusal.number), Some(13)),
                 }
             }
-            let mut s = listed(13);
-            s[71] = mode;
-            assert_eq!(refusal(&s), (13, 0));
+            let [mut right, mut wrong] = [14, 13].map(listed);
+            (right[71], wrong[71]) = (mode, mode);
+            assert_eq!(read(&right).ok().map(|grid| grid.points), Some(14));
+            assert_eq!(refusal(&wrong), (13, 0));
         }
     }
 
