@@ -46,7 +46,7 @@
 #define SKOGMUND_REFUSED_NO_RANGE 9       /* no time range: n is 0 */
 #define SKOGMUND_REFUSED_WIDTH 10         /* section 3's width, Ni, Nj, Di, Dj and octet 12 disagree */
 #define SKOGMUND_REFUSED_UNDER_TOTAL 11   /* shorter than the total (section 3 or 4); the place is the first octet that is not there */
-#define SKOGMUND_REFUSED_POINTS 13        /* the number of points is not the list's sum, or, without a list and with bit 8 of the scanning mode clear, not Ni x Nj */
+#define SKOGMUND_REFUSED_POINTS 13        /* the points are not the list's sum, or without a list not Ni x Nj, with bit 8 of the scanning mode clear */
 #define SKOGMUND_REFUSED_VALUES 14        /* section 5's N is not section 3's number of points */
 #define SKOGMUND_REFUSED_DATA 15          /* section 7's length is not the one that N and the bits give */
 #define SKOGMUND_REFUSED_SLOT 16          /* a slot above 63 */
@@ -74,9 +74,9 @@ extern "C" {
 
 /* Reads section 1, 3, 4, 5 or 7. values[0] is the count of the values that follow, and they follow in the order of their octets: the
    section's length and number first, fields that the template lacks left out, lists not among them; section 1 ends with the real year.
-   docs/VALUES.md has the fields by their indices. A grid's number of points, values[4], need not be Ni x Nj. Another section number is 4 with that number as the section, whatever else is lent. Then
-   the section's own refusals (section 7 alone knows 1 to 4), then 18 where there are fewer than SKOGMUND_VALUES places. The places past the
-   last value stay as they were. */
+   docs/VALUES.md has the fields by their indices; a grid's number of points, values[4], need not be Ni x Nj. Another section number is 4 with
+   that number as the section, whatever else is lent. Then the section's own refusals (section 7 alone knows 1 to 4), then 18 where there are
+   fewer than SKOGMUND_VALUES places. The places past the last value stay as they were. */
 uint64_t skogmund_read(uint8_t section, const uint8_t *s, size_t n, int64_t *values, size_t places);
 
 /* Where a part of a section stands: part 1 the list of section 3, 2 the k-th time range of section 4 (from 0), 3 its members, 4 its
