@@ -20,7 +20,7 @@ use Rattle.message.proofs.Steps.{Steps}
 
 -- ---- which section comes next
 
-pub next-number : (last n : ℕ) → (last ≡ 7 → ⊥) → (last ≡ 1 → ⊥) → mayFollow last n ≡ true → n ≡ last + 1
+next-number : (last n : ℕ) → (last ≡ 7 → ⊥) → (last ≡ 1 → ⊥) → mayFollow last n ≡ true → n ≡ last + 1
 unfolding mayFollow
 next-number last n seven one e = eqb-true n (last + 1) (rw (ne-eqb last 7 seven, ne-eqb last 1 one) at e)
 

@@ -3,9 +3,11 @@
 use Prim.Native.Nat.{ℕ, suc, _+_, _-_, _≤_, _<_}
 use native.Mathlib.Omega.{arith}
 use native.Mathlib.Numerals.{add-one}
-use borrow.Author.Tests.{ne-eqb}
+use borrow.Author.Tests.{ne-eqb, eqb-true}
 use mathlib.Core.Path.{_≡_, refl, ap, sym, subst, _∙_}
+use mathlib.Core.Bool.{true, not}
 use mathlib.Core.List.{List, [], _∷_, map}
+use lib.Dec.{eqb}
 use lib.ListN.{length, take, drop, getD, drop-of-length-le}
 use lib.Seq.{drop-cons, take-nil}
 use Rattle.layout.specs.Fields.{Value}
@@ -13,6 +15,7 @@ use Rattle.layout.specs.Outcomes.{Outcome, refused, read, andThen, refusalOf}
 use Rattle.layout.specs.Spans.{octetsIn}
 use Rattle.layout.specs.declared.Span.{Span}
 use Rattle.layout.specs.declared.Refusal.{Refusal}
+use Rattle.layout.proofs.Ranges.{both-hold, test-differs}
 use Rattle.layout.proofs.Refusals.{Proper, proper}
 use Rattle.identification.specs.Section1.{outcome₁}
 use Rattle.identification.specs.Refused.{table₁}
@@ -31,12 +34,19 @@ use Rattle.message.specs.declared.Sections.{Sections}
 use Rattle.message.specs.declared.Cut.{Cut}
 use Rattle.message.specs.Walk.{refusedWith, unlessRefused}
 use Rattle.message.specs.Grammar.{Five}
-use Rattle.message.specs.Messages.{shownIn, outcomeOf, openingOutcome, WasRead, OpeningRead, orRefused, fieldsRead}
+use Rattle.message.specs.Messages.{shownIn, outcomeOf, openingOutcome, sameSection, WasRead, OpeningRead, orRefused, fieldsRead}
 use Rattle.message.proofs.AcceptedExactlyWhen.{taken-on, follows-five}
 
 -- a section that stands where one stands that was read
-pub again : (outcome : List ℕ → Outcome) (m : List ℕ) (before x : Span) → WasRead outcome m before → (before ≡ x) × (0 < before .length) → (vs : List Value) × (outcome (octetsIn x m) ≡ read vs)
-again outcome m before x was same = subst (λ (y : Span). (vs : List Value) × (outcome (octetsIn y m) ≡ read vs)) (same .0) (was (same .1))
+pub again : (outcome : List ℕ → Outcome) (m : List ℕ) (before x : Span) → WasRead outcome m before → sameSection before x ≡ true → (vs : List Value) × (outcome (octetsIn x m) ≡ read vs)
+unfolding sameSection
+again outcome m before x was same =
+    let some = both-hold (not (eqb (before .length) 0)) _ same in
+    let place = both-hold (eqb (before .before) (x .before)) (eqb (before .length) (x .length)) (some .1) in
+    let at = eqb-true (before .before) (x .before) (place .0) in
+    let long = eqb-true (before .length) (x .length) (place .1) in
+    let is : before ≡ x = λ i. record { before = at i; length = long i } in
+    subst (λ (y : Span). (vs : List Value) × (outcome (octetsIn y m) ≡ read vs)) is (was (omega (arith, test-differs (before .length) 0 (some .0))))
 
 -- ---- sections 1 and 3, and then the others
 

@@ -16,7 +16,7 @@ use Rattle.message.specs.Messages.{shownIn}
 use Rattle.message.specs.Places.{fourAfter, threeAt, nextAfter, placesOf, placesIn, FieldWithin}
 
 -- a section that stands behind so many octets is shown there
-pub shown-at : (m pre x rest : List ℕ) (at : ℕ) → m ≡ pre ++ (x ++ rest) → length pre ≡ at → octetsIn (spanAt at x) m ≡ x
+shown-at : (m pre x rest : List ℕ) (at : ℕ) → m ≡ pre ++ (x ++ rest) → length pre ≡ at → octetsIn (spanAt at x) m ≡ x
 shown-at m pre x rest at e l =
     ap (λ (s : List ℕ). take (length x) (drop at s)) e
     ∙ ap (take (length x)) (drop-at pre (x ++ rest) at l)
@@ -129,7 +129,7 @@ shown (g ∷ gs) m at one three a b e f s =
       within = (record { one = e .within; three = r .three-is .within; four = x .four .within; five = x .five .within; seven = x .seven .within }, rest .within);
     }
 
-pub frame-stands : (m : List ℕ) (p : Parts) → IsFrame m p → Stands m 16 (behindZero p)
+frame-stands : (m : List ℕ) (p : Parts) → IsFrame m p → Stands m 16 (behindZero p)
 frame-stands m p f = record { before = p .zero; after = p .end; long = f .sixteen; whole = f .strung }
 
 frame-shows : (m : List ℕ) (p : Parts) → IsFrame m p → ShowsAll m (placesIn p) (fieldsIn p)

@@ -15,7 +15,7 @@ use Rattle.message.specs.declared.Sections.{Sections}
 use Rattle.message.specs.declared.Cut.{Cut}
 use Rattle.message.specs.Walk.{noSections}
 use Rattle.message.specs.Grammar.{Five, noFive, Follows, AllFollow, fieldsIn, FollowsMessage}
-use Rattle.message.specs.Messages.{shownIn, spanOf, fieldOf, sectionIn, numbered, sectionNumbered, readMessage}
+use Rattle.message.specs.Messages.{shownIn, spanOf, fieldOf, sectionIn, numbered, readMessage}
 use Rattle.message.specs.Places.{placesIn, padded, fieldsFound, FieldWithin, LowField}
 use Rattle.message.proofs.Shown.{frame-shown, nowhere-within, frame-within}
 use Rattle.message.proofs.AcceptedExactlyWhen.{answer, accepted-exactly-when}
@@ -31,6 +31,10 @@ by-tests m f false false true d e = refl
 by-tests m f false false false true e = refl
 by-tests m f false false false false true = refl
 by-tests m f false false false false false = refl
+
+-- the section of a field that has this number; of others, no octets
+abbrev sectionNumbered : Five → ℕ → List ℕ
+sectionNumbered x n = numbered (x .one) (x .three) (x .four) (x .five) (x .seven) [] n
 
 by-number : (m : List ℕ) (f : Sections) (n : ℕ) → octetsIn (spanOf f n) m ≡ sectionNumbered (shownIn m f) n
 unfolding numbered
@@ -58,7 +62,7 @@ field-shown m x k =
     ∙ sym (List·getD-map (shownIn m) fs k noSections)
     ∙ ap (λ (l : List Five). getD l k noFive) (frame-shown m (x .parts) (x .frame))
 
-pub section-shown : (m : List ℕ) (x : FollowsMessage m) (k n : ℕ) → sectionIn m (readMessage m) k n ≡ sectionNumbered (getD (fieldsIn (x .parts)) k noFive) n
+section-shown : (m : List ℕ) (x : FollowsMessage m) (k n : ℕ) → sectionIn m (readMessage m) k n ≡ sectionNumbered (getD (fieldsIn (x .parts)) k noFive) n
 unfolding sectionIn
 section-shown m x k n = by-number m (fieldOf (readMessage m) k) n ∙ ap (λ (f : Five). sectionNumbered f n) (field-shown m x k)
 

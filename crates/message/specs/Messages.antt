@@ -3,7 +3,7 @@
 use Prim.Native.Nat.{ℕ, _+_, _-_, _≤_, _<_}
 use mathlib.Core.Path.{_≡_}
 use mathlib.Core.List.{List, [], _∷_, map}
-use mathlib.Core.Bool.{Bool, not, cond}
+use mathlib.Core.Bool.{Bool, not, cond, _&&_}
 use lib.Dec.{ltb, eqb}
 use lib.ListN.{length, take, drop, getD}
 use Rattle.octets.specs.Octets.{beAt}
@@ -107,15 +107,16 @@ fieldOf c k = cond (ltb k (c .count)) (getD (c .fields) k noSections) noSections
 unfoldable pub sectionIn : List ℕ → Cut → ℕ → ℕ → List ℕ
 sectionIn m c k n = octetsIn (spanOf (fieldOf c k) n) m
 
--- the section of a field that has this number; of others, no octets
-abbrev pub sectionNumbered : Five → ℕ → List ℕ
-sectionNumbered x n = numbered (x .one) (x .three) (x .four) (x .five) (x .seven) [] n
-
 -- ---- for the code, which reads no section again that the field before has too
 
 -- sections 1 and 3 of a field
 abbrev pub openingOutcome : Five → Outcome
 openingOutcome x = andThen (outcome₁ (x .one)) (outcome₃ (x .three))
+
+-- a section is the one that stands there: it has its place and its length; where that is nowhere, none is
+unfoldable pub sameSection : Span → Span → Bool
+sameSection before x =
+    not (eqb (before .length) 0) && (eqb (before .before) (x .before) && eqb (before .length) (x .length))
 
 -- a section that stands there was read; one that stands nowhere need not be
 abbrev pub WasRead : (List ℕ → Outcome) → List ℕ → Span → Type 0

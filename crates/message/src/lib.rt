@@ -1,7 +1,5 @@
 // Whole messages: one walk over the sections of a lent message, and its fields' sections as parts of it. Nothing is copied.
 ghost use mathlib.Core.Path.{_≡_};
-ghost use mathlib.Core.Bool.{true};
-ghost use Prim.Native.Nat.{_<_};
 ghost use lib.ListN.{drop};
 ghost use Rattle.cutting.specs.Cuts.{cutOf};
 ghost use Rattle.cutting.specs.Sections.{sectionStep};
@@ -9,7 +7,7 @@ ghost use Rattle.layout.specs.Fields.{between};
 ghost use Rattle.layout.specs.Outcomes.{refusalOf};
 ghost use Rattle.field.specs.Field.{fieldRefusal};
 ghost use Rattle.message.specs.Walk.{noSections, inForce, refusedWith, unlessRefused, mayFollow, otherSix, sectionRefusal, endRefusal, judged, startWalk};
-ghost use Rattle.message.specs.Messages.{startRefusal, cutMessage, shownIn, outcomeOf, openingOutcome, OpeningRead, foundIn, fieldsRead, readMessage, fieldOf, spanOf, sectionIn};
+ghost use Rattle.message.specs.Messages.{startRefusal, cutMessage, shownIn, outcomeOf, openingOutcome, sameSection, OpeningRead, foundIn, fieldsRead, readMessage, fieldOf, spanOf, sectionIn};
 use layout::Refusal;
 use layout::Span;
 
@@ -144,7 +142,7 @@ fn opening_refusal(message: &[u8], before: Sections, sections: Sections) -> Refu
 
 // Whether a section is the one that stands at `before`; where that is nowhere, none does.
 fn stands_there(before: Span, section: Span) -> bool
-    ensures { λ r. ⌜ (r ≡ true → (before ≡ section) × (0 < before .length)) ⌝ }
+    ensures { λ r. ⌜ r ≡ sameSection before section ⌝ }
 {
     if before.length == 0 {
         return false;

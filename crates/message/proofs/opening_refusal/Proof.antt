@@ -29,7 +29,7 @@ one-read c =
     let a = c .before .before .before in
     ⊎-elim
     (λ w. (_, ap outcome₁ (sym (w .1 .ensures)) ∙ answer-is told₁ (w .2 .ensures) (w .4 .given .1)))
-    (λ w. again outcome₁ (now (a .args .message)) _ _ (a .pre .one) (c .before .stands-there .ensures (not-false _ (w .left))))
+    (λ w. again outcome₁ (now (a .args .message)) _ _ (a .pre .one) (sym (c .before .stands-there .ensures) ∙ not-false _ (w .left)))
     (c .if1 .came)
 
 returns-2 : tie.Need-returns-2
@@ -37,7 +37,7 @@ unfolding andThen
 returns-2 c =
     let t = c .before .before in
     let a = t .before .before .before .before in
-    let three = again outcome₃ (now (a .args .message)) _ _ (a .pre .three) (t .stands-there2 .ensures (c .before .if2 .taken)) in
+    let three = again outcome₃ (now (a .args .message)) _ _ (a .pre .three) (sym (t .stands-there2 .ensures) ∙ c .before .if2 .taken) in
     simp (c .none .ensures, one-read (t .before) .1, three .1)
 
 returns-3 : tie.Need-returns-3

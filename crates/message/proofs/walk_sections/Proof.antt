@@ -3,6 +3,8 @@
 use Prim.Native.Nat.{_-_, _<_}
 use native.Mathlib.Omega.{arith}
 use mathlib.Core.Path.{_≡_, ap, sym, _∙_}
+use mathlib.Core.Bool.{cond}
+use lib.Dec.{eqb}
 use lib.ListN.{length}
 use Rattle.layout.specs.declared.Refusal.{Refusal}
 use denote.Ref.{now}
@@ -11,7 +13,8 @@ use borrow.Author.Tests.{eq-eqb, ne-eqb}
 use Rattle.octets.proofs.Free.{free}
 use Rattle.cutting.proofs.Sections.{EndsAfter}
 use Rattle.cutting.specs.Sections.{stretch}
-use Rattle.message.specs.Walk.{numberIn, sectionRefusal, refusedWith, startWalk}
+use Rattle.message.specs.Walk.{numberIn, sectionRefusal, refusedWith, unlessRefused, oneMore, startWalk}
+use Rattle.message.specs.declared.Cut.{Cut}
 use Rattle.message.proofs.Clear.{clear}
 use Rattle.message.proofs.Walks.{judgedFrom, stands, walk-on, walk-stopped, walk-refused, walk-end}
 use Rattle.message.proofs.walk_sections.Statement.{statement}
@@ -83,43 +86,48 @@ met : (c : tie.After-u8-at Inv-loop μ-loop) → let e = c .before .before .befo
     c .u8-at .result ≡ numberIn (stretch (now (l .before .before .before .before .before .args .body)) (l .loop .at) (e .end-after .result))
 met c = c .u8-at .ensures ∙ ap numberIn (c .before .before .before .before .stretch .ensures)
 
+-- a turn leaves less
+shorter : (c : tie.Else1 Inv-loop μ-loop) → let l = c .before .before .before in let body = now (l .before .before .before .before .before .args .body) in length body - c .before .end-after .result < length body - l .loop .at
+shorter c = let s = there c in omega (arith, s .later, s .inside)
+
+-- and what is judged is the same, with one field more behind a section 7
+turn : (c : tie.After-in-force Inv-loop μ-loop) (found : Cut) → let n = c .before in let e = n .before .before .before .before .before in let l = e .before .before .before in let a = l .before .before .before .before .before .args in
+    found ≡ cond (eqb (n .u8-at .result) 7) (oneMore (l .loop .cut) (c .in-force .result)) (l .loop .cut)
+    → judgedFrom (now (a .body)) (a .right) (record { last = n .u8-at .result; force = c .in-force .result; found = found }) (e .before .end-after .result) ≡ judgedFrom (now (a .body)) (a .right) startWalk 16
+turn c found is =
+    let n = c .before in
+    let e = n .before .before .before .before .before in
+    let l = e .before .before .before in
+    let a = l .before .before .before .before .before .args in
+    walk-on (now (a .body)) (a .right) _ (l .loop .at) _ (there e) _ _ found (met n) (c .in-force .ensures) is (cleared (n .before)) ∙ l .loop .inv
+
 loop-less : tie.Need-loop-less Inv-loop μ-loop
-loop-less c = let s = there (c .before .before .before .before .before .before .before) in omega (arith, s .later, s .inside)
+loop-less c = shorter (c .before .before .before .before .before .before .before)
 
 loop-again : tie.Need-loop-again Inv-loop μ-loop
-loop-again c =
-    let n = c .before .before in
-    let e = n .before .before .before .before .before in
-    let l = e .before .before .before in
-    let a = l .before .before .before .before .before .args in
-    walk-on (now (a .body)) (a .right) _ (l .loop .at) _ (there e) _ _ _ (met n) (c .before .in-force .ensures) (rw (eq-eqb _ 7 (c .if3 .taken))) (cleared (n .before)) ∙ l .loop .inv
+loop-again c = turn (c .before) _ (rw (eq-eqb _ 7 (c .if3 .taken)))
 
 loop-less-2 : tie.Need-loop-less-2 Inv-loop μ-loop
-loop-less-2 c = let s = there (c .before .before .before .before .before .before .before) in omega (arith, s .later, s .inside)
+loop-less-2 c = shorter (c .before .before .before .before .before .before .before)
 
 loop-again-2 : tie.Need-loop-again-2 Inv-loop μ-loop
-loop-again-2 c =
-    let n = c .before .before in
-    let e = n .before .before .before .before .before in
-    let l = e .before .before .before in
+loop-again-2 c = turn (c .before) _ (rw (ne-eqb _ 7 (c .if3 .left)))
+
+-- the last four octets
+ended : (c : tie.After-end-refusal Inv-loop μ-loop) → let l = c .before .before in let a = l .before .before .before .before .before .args in unlessRefused (c .end-refusal .result) (l .loop .cut) ≡ judgedFrom (now (a .body)) (a .right) startWalk 16
+ended c =
+    let l = c .before .before in
     let a = l .before .before .before .before .before .args in
-    walk-on (now (a .body)) (a .right) _ (l .loop .at) _ (there e) _ _ _ (met n) (c .before .in-force .ensures) (rw (ne-eqb _ 7 (c .if3 .left))) (cleared (n .before)) ∙ l .loop .inv
+    ap (λ (x : Refusal). unlessRefused x (l .loop .cut)) (c .end-refusal .ensures)
+    ∙ walk-end (now (a .body)) (a .right) (record { last = l .loop .last; force = l .loop .force; found = l .loop .cut }) (l .loop .at) (c .before .loop-test .left)
+    ∙ l .loop .inv
 
 returns-3 : tie.Need-returns-3 Inv-loop μ-loop
 returns-3 c =
-    let r = c .before .before .before in
-    let l = r .before .before in
-    let a = l .before .before .before .before .before .args in
-    let end = walk-end (now (a .body)) (a .right) (record { last = l .loop .last; force = l .loop .force; found = l .loop .cut }) (l .loop .at) (r .before .loop-test .left) in
-    c .refused-with4 .ensures ∙ (simp (← r .end-refusal .ensures, ne-eqb _ _ (c .before .if4 .taken)) at end) ∙ l .loop .inv
+    c .refused-with4 .ensures ∙ (simp (ne-eqb _ _ (c .before .if4 .taken)) at (ended (c .before .before .before)))
 
 returns-4 : tie.Need-returns-4 Inv-loop μ-loop
-returns-4 c =
-    let r = c .before .before in
-    let l = r .before .before in
-    let a = l .before .before .before .before .before .args in
-    let end = walk-end (now (a .body)) (a .right) (record { last = l .loop .last; force = l .loop .force; found = l .loop .cut }) (l .loop .at) (r .before .loop-test .left) in
-    (simp (← r .end-refusal .ensures, eq-eqb _ _ (c .if4 .left)) at end) ∙ l .loop .inv
+returns-4 c = simp (eq-eqb _ _ (c .if4 .left)) at (ended (c .before .before))
 
 pub walk-sections-spec : {M : Type 1} → statement M
 walk-sections-spec =
