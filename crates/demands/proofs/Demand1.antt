@@ -6,6 +6,7 @@
 -- `entry/specs/Entry.antt`), and tests/entries compares these statements with the entries in the sources.
 pub use Rattle.octets.proofs.Entries as octets-entries
 pub use Rattle.lent.proofs.Entries as lent-entries
+pub use Rattle.unpacking.proofs.Entries as unpacking-entries
 pub use Rattle.layout.proofs.Entries as layout-entries
 pub use Rattle.cutting.proofs.Entries as cutting-entries
 pub use Rattle.identification.proofs.Entries as identification-entries
@@ -57,7 +58,7 @@ use lib.Dec.{eqb}
 use lib.ListN.{drop}
 use Rattle.layout.specs.Outcomes.{Outcome}
 use Rattle.layout.specs.declared.Refusal.{Refusal}
-use Rattle.packing.specs.Packed.{unpacked}
+use Rattle.unpacking.specs.Packed.{unpacked}
 use Rattle.packing.specs.Section5.{valuesAt, bitsAt}
 use Rattle.packing.specs.Unpacking.{toldUnpacked, rowBy, rowAfter, Unpacks}
 use Rattle.packing.specs.declared.Unpacked.the-variants.{Refused as refusedUnpacking}

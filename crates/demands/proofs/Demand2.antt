@@ -68,7 +68,7 @@ use Rattle.product.proofs.FieldsCoverOnce.{covered₄}
 use Rattle.product.proofs.MeansByName.{means₄}
 use Rattle.product.proofs.ViewsAreTheLayouts.{views-shown, range-stands, members-stand, coordinates-stand, range-whole, no-range, no-members, refused-nothing}
 use Rattle.lent.proofs.Rows.{each-filled}
-use Rattle.packing.specs.Packed.{bitAt, bitsFrom, packedAt, unpacked}
+use Rattle.unpacking.specs.Packed.{bitAt, bitsFrom, packedAt, unpacked}
 use Rattle.packing.specs.Unpacking.{toldUnpacked, Unpacks}
 use Rattle.packing.specs.declared.Unpacked.{Unpacked}
 use Rattle.packing.specs.declared.Unpacked.the-variants.{Written}

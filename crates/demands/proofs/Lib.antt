@@ -11,3 +11,4 @@ pub mod Twelve
 pub mod ShortOrLong
 pub mod Messages
 pub mod OffsetRows
+pub mod Engines

@@ -43,7 +43,7 @@ use Rattle.grid.proofs.StarredGrids.{grids-agree}
 use Rattle.product.specs.Section4.{outcome₄}
 use Rattle.product.specs.Refused.{table₄}
 use Rattle.product.proofs.RefusalNumbers.{refuses₄}
-use Rattle.packing.specs.Packed.{bitAt}
+use Rattle.unpacking.specs.Packed.{bitAt}
 use Rattle.packing.specs.Section5.{outcome₅, valuesAt, bitsAt}
 use Rattle.packing.specs.Section7.{outcome₇}
 use Rattle.packing.specs.Refused.{table₅, table₇}

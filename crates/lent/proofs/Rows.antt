@@ -19,7 +19,7 @@ module _ {A : Type 0} (d : A) (f : ℕ → A) where
   abbrev pub Filled : List A → ℕ → Type 0
   Filled row n = (j : ℕ) → j < n → getD row j d ≡ f j
 
-  length-each : (i n : ℕ) → length (eachFrom f i n) ≡ n
+  pub length-each : (i n : ℕ) → length (eachFrom f i n) ≡ n
   unfolding eachFrom
   length-each i zero = refl
   length-each i (suc n) = ap suc (length-each (suc i) n)

@@ -1,9 +1,7 @@
 pub mod AcceptedExactlyWhen
 pub mod FieldsCoverOnce
 pub mod AnswersDetermined
-pub mod SpareBits
 pub mod StarredPacking
-pub mod Runs
 pub mod Unpacks
 pub mod Entries
 pub mod RefusalNumbers

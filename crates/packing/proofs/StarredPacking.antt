@@ -6,7 +6,7 @@ use Rattle.layout.specs.Fields.{between, placed, valuesOf, lowestBad}
 use Rattle.layout.specs.Outcomes.{firstOf, openingReasons, totalReasons, fittingReasons, templateReasons, andThen}
 use Rattle.layout.specs.Examples.{AllAgree}
 use Rattle.lent.specs.Rows.{eachFrom}
-use Rattle.packing.specs.Packed.{bitAt, bitsFrom, packedAt, unpacked}
+use Rattle.unpacking.specs.Packed.{bitAt, bitsFrom, packedAt, unpacked}
 use Rattle.packing.specs.Section5.{fields₅, asSimple, outcome₅}
 use Rattle.packing.specs.Section7.{fields₇alone, outcome₇}
 use Rattle.packing.specs.Unpacking.{unpackOutcome, rowAfter}

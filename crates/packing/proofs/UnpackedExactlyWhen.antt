@@ -11,14 +11,14 @@ use Rattle.layout.specs.Fields.{Value, plain}
 use Rattle.layout.specs.Outcomes.{Outcome, refused, read, andThen, firstOf}
 use Rattle.layout.proofs.Outcomes.{NoneHold, read-none}
 use Rattle.layout.proofs.Ranges.{test-same, same-test}
-use Rattle.packing.specs.Packed.{bitAt, bitsFrom, packedAt, unpacked}
+use Rattle.unpacking.specs.Packed.{bitAt, bitsFrom, packedAt, unpacked}
 use Rattle.packing.specs.Section5.{outcome₅, valuesAt, bitsAt}
 use Rattle.packing.specs.Section7.{outcome₇}
 use Rattle.packing.specs.Accepted.{Follows₅, Follows₇}
 use Rattle.packing.specs.Unpacking.{unpackOutcome, rowBy, rowAfter, toldUnpacked, Unpacks}
 use Rattle.packing.specs.declared.Unpacked.the-variants.{Written}
 use Rattle.packing.proofs.AcceptedExactlyWhen.{accepted-follows₅, follows-accepted₅, accepted-follows₇, follows-accepted₇}
-use Rattle.packing.proofs.SpareBits.{spare}
+use Rattle.unpacking.proofs.SpareBits.{spare}
 
 and-read : (a b : Outcome) (vs : List Value) → andThen a b ≡ read vs → ((us : List Value) × (a ≡ read us)) × (b ≡ read vs)
 unfolding andThen

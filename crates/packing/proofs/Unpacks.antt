@@ -8,7 +8,7 @@ use borrow.Author.Tests.{eq-eqb, ne-eqb}
 use Rattle.layout.specs.Fields.{Value, none, placed, valuesOf, naturalIn}
 use Rattle.layout.specs.Outcomes.{read, refusedBy, firstOf, andThen, refusal}
 use Rattle.layout.specs.declared.Refusal.{Refusal}
-use Rattle.packing.specs.Packed.{unpacked}
+use Rattle.unpacking.specs.Packed.{unpacked}
 use Rattle.packing.specs.Section5.{fields₅, valuesAt, bitsAt, outcome₅, valuesIn₅}
 use Rattle.packing.specs.Section7.{outcome₇}
 use Rattle.packing.specs.Unpacking.{unpackOutcome, rowAfter, toldUnpacked, Unpacks}

@@ -8,7 +8,7 @@ use lib.ListN.{length, drop}
 use lib.Dec.{eqb}
 use Rattle.layout.specs.Fields.{plain}
 use Rattle.layout.specs.Outcomes.{Outcome, refused, read, refusedBy, reason, firstOf, andThen}
-use Rattle.packing.specs.Packed.{unpacked}
+use Rattle.unpacking.specs.Packed.{unpacked}
 use Rattle.packing.specs.Section5.{outcome₅, valuesAt, bitsAt}
 use Rattle.packing.specs.Section7.{outcome₇}
 use Rattle.packing.specs.declared.Unpacked.{Unpacked}

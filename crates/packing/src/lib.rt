@@ -6,8 +6,6 @@ ghost use Rattle.packing.specs.Section7.{outcome₇, told₇, refusalIn�
 ghost use Rattle.packing.specs.Unpacking.{Unpacks};
 use layout::Refusal;
 
-mod bits;
-
 // Section 5: every field once. `values` is N, `reference` R as bits, `binary_scale` E and `decimal_scale` D.
 pub struct Packing {
     pub length: u32,
@@ -124,7 +122,7 @@ pub fn unpack(section5: &[u8], section7: &[u8], row: &mut [u32]) -> Unpacked
     if row.len() != packing.values as usize {
         return Unpacked::Refused(Refusal::of(18, 0));
     }
-    bits::unpack_bits(&section7[5..], packing.bits as u32, row);
+    unpacking::unpack(&section7[5..], packing.bits as u32, row);
     Unpacked::Written(packing.values)
 }
 

@@ -9,7 +9,7 @@ use lib.IntN.{ℤ}
 use lib.ListN.{length, drop}
 use Rattle.layout.specs.Outcomes.{Outcome, refused, read}
 use Rattle.layout.proofs.Outcomes.{either}
-use Rattle.packing.specs.Packed.{unpacked}
+use Rattle.unpacking.specs.Packed.{unpacked}
 use Rattle.packing.specs.Section5.{valuesAt, bitsAt}
 use Rattle.packing.specs.Unpacking.{unpackOutcome, rowBy, rowAfter}
 use Rattle.shelf.specs.declared.Shelf.{Shelf}

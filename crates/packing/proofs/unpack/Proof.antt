@@ -3,7 +3,8 @@
 use Rattle.octets.proofs.Free.{free}
 use Rattle.layout.specs.Fields.{Value}
 use Rattle.layout.specs.Outcomes.{read, refusedBy}
-use Rattle.packing.specs.Packed.{unpacked}
+use Rattle.unpacking.specs.Packed.{unpacked}
+use Rattle.unpacking.proofs.Filled.{narrow}
 use Rattle.packing.specs.Section5.{outcome₅, valuesIn₅, valuesAt, bitsAt, refusalIn₅, told₅}
 use Rattle.packing.specs.Section7.{outcome₇, refusalIn₇, told₇}
 use Rattle.packing.proofs.AcceptedExactlyWhen.{accepted-follows₇}
@@ -80,14 +81,11 @@ five-there c =
     let seven = seven-read c in
     omega (arith, accepted-follows₇ _ _ _ (seven .0) (seven .1) .0 .whole)
 
-sub-unpack-bits : tie.Need-sub-unpack-bits
-sub-unpack-bits c = five-there (c .before .before)
+sub-unpack : tie.Need-sub-unpack
+sub-unpack c = five-there (c .before .before)
 
-part-unpack-bits-start : tie.Need-part-unpack-bits-start
-part-unpack-bits-start c = five-there (c .before .before)
-
-unpack-bits-requires : tie.Need-unpack-bits-requires
-unpack-bits-requires c κs = five-known (c .before .before .before .before .before .before .before) .narrow
+part-unpack-start : tie.Need-part-unpack-start
+part-unpack-start c = five-there (c .before .before)
 
 -- the octets from octet 6 on
 from-six : (s : List ℕ) → take (length s - 5) (drop 5 s) ≡ drop 5 s
@@ -102,7 +100,10 @@ returns-4 c =
     let seven = seven-read t in
     let k = five-known (t .before .before) in
     let long : length (now (a .row)) ≡ valuesAt (now (a .section5)) = e .if1 .left ∙ k .values in
-    let numbers = c .before .before .unpack-bits .ensures ∙ (λ i. unpacked (k .bits i) (long i) (from-six (now (a .section7)) i)) in
+    let numbers =
+    c .before .before .unpack .ensures
+    ∙ narrow _ _ (now (a .row)) (k .narrow)
+    ∙ (λ i. unpacked (k .bits i) (long i) (from-six (now (a .section7)) i)) in
     all-written (now (a .section5)) (now (a .section7)) (now (a .row)) _ (five-read (t .before .before)) (seven .0) (seven .1) _ _ long (k .values) numbers
 
 pub unpack-spec : {M : Type 1} → statement M
@@ -122,10 +123,10 @@ unpack-spec =
     (λ c. search needs)
     free
     returns-3
-    sub-unpack-bits
-    part-unpack-bits-start
+    sub-unpack
+    part-unpack-start
     (λ c. search needs)
     (λ c. search needs)
-    unpack-bits-requires
+    (λ c κs. search needs)
     (λ c. search needs)
     returns-4)

@@ -8,10 +8,10 @@ use native.Mathlib.Omega.{arith}
 use native.Mathlib.Nat.{le-of-suc-le-suc}
 use lib.Arith.{lt-of-le-ne}
 use denote.Ref.{now}
-use Rattle.packing.specs.Packed.{bitsFrom, bitAt}
-use Rattle.packing.proofs.Runs.{bits-next, bits-under}
-use Rattle.packing.proofs.bits.number.Statement.{statement}
-use Rattle.packing.proofs.bits.number.Tie as tie
+use Rattle.unpacking.specs.Packed.{bitsFrom, bitAt}
+use Rattle.unpacking.proofs.Runs.{bits-next, bits-under}
+use Rattle.unpacking.proofs.bits.number.Statement.{statement}
+use Rattle.unpacking.proofs.bits.number.Tie as tie
 
 record Going (xs : List ℕ) (bits from value here k w : ℕ) : Type 0 where
   turns : w ≤ bits

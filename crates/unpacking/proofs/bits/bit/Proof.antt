@@ -4,9 +4,9 @@ use mathlib.Core.Path.{sym}
 use native.Mathlib.Omega.{arith}
 use denote.Ref.{now}
 use borrow.Author.Needs.{needs}
-use Rattle.packing.proofs.Runs.{bit-of, bit-past}
-use Rattle.packing.proofs.bits.bit.Statement.{statement}
-use Rattle.packing.proofs.bits.bit.Tie as tie
+use Rattle.unpacking.proofs.Runs.{bit-of, bit-past}
+use Rattle.unpacking.proofs.bits.bit.Statement.{statement}
+use Rattle.unpacking.proofs.bits.bit.Tie as tie
 
 cast-result : tie.Need-cast-result
 cast-result c = omega (arith, c .shared-slice-known .given (c .before .before .args .c .at))

@@ -1,6 +1,6 @@
 -- `unpack_bits`: after each turn one place more is written, and the cursor stands before the next number.
 -- Assumes nothing.
-use mathlib.Core.Path.{_≡_, _∙_, refl, ap}
+use mathlib.Core.Path.{_≡_, _∙_, refl, sym, ap}
 use mathlib.Core.List.{List}
 use Prim.Native.Nat.{ℕ, _+_, _-_, _*_, _≤_, _<_}
 use native.Mathlib.Nat.{mul-le-mul-left}
@@ -8,11 +8,12 @@ use native.Mathlib.Omega.{arith}
 use lib.ListN.{length, length-set}
 use denote.Ref.{now}
 use Rattle.lent.proofs.Rows.{Filled, all-filled, filled-set}
-use Rattle.packing.specs.Packed.{bitsFrom, packedAt, unpacked}
-use Rattle.packing.specs.declared.bits.Cursor.{Cursor}
-use Rattle.packing.proofs.Runs.{next-place}
-use Rattle.packing.proofs.bits.unpack_bits.Statement.{statement}
-use Rattle.packing.proofs.bits.unpack_bits.Tie as tie
+use Rattle.unpacking.specs.Packed.{bitsFrom, packedAt, unpacked}
+use Rattle.unpacking.specs.declared.bits.Cursor.{Cursor}
+use Rattle.unpacking.proofs.Runs.{next-place}
+use Rattle.unpacking.proofs.Filled.{narrow, wide}
+use Rattle.unpacking.proofs.bits.unpack_bits.Statement.{statement}
+use Rattle.unpacking.proofs.bits.unpack_bits.Tie as tie
 
 record Going (bits : ℕ) (xs row₀ row : List ℕ) (i : ℕ) (c : Cursor) : Type 0 where
   within : i ≤ length row
@@ -27,13 +28,18 @@ Inv-loop packed bits row₀ c₀ i₀ row c i = Going bits packed row₀ row i c
 abbrev μ-loop : tie.MeasureT-loop
 μ-loop packed bits row₀ c₀ i₀ row c i = length row₀ - i
 
+returns : tie.Need-returns Inv-loop μ-loop
+returns c =
+    let a = c .before .before .before .args in
+    sym (wide (a .bits) (now (a .packed)) (now (a .row)) (c .if1 .taken))
+
 loop-holds : tie.Need-loop-holds Inv-loop μ-loop
 loop-holds c = record { within = omega arith; long = refl; place = omega arith; inside = omega arith; written = λ j h. absurd (omega arith) }
 
 number-requires : tie.Need-number-requires Inv-loop μ-loop
 number-requires c κs =
-    let s = c .before .before .before .before in
-    (omega arith, omega (arith, mul-le-mul-left (c .before .loop .i) (s .pre), s .good), omega arith)
+    let e = c .before .before in
+    (omega arith, omega (arith, mul-le-mul-left (c .before .loop .i) (e .if1 .left), e .before .before .before .good), omega arith)
 
 mul-row : tie.Need-mul-row Inv-loop μ-loop
 mul-row c = omega arith
@@ -50,7 +56,7 @@ loop-less c = omega arith
 loop-again : tie.Need-loop-again Inv-loop μ-loop
 unfolding packedAt
 loop-again c =
-    let s = c .before .before .before .before .before .before in
+    let s = c .before .before .before .before .before .before .before in
     let l = c .before .before .before .loop in
     let g = l .inv in
     let e = c .before .number .ensures in
@@ -69,12 +75,14 @@ loop-again c =
 same-length : tie.Need-same-length Inv-loop μ-loop
 same-length c = omega arith
 
-returns : tie.Need-returns Inv-loop μ-loop
+returns-2 : tie.Need-returns-2 Inv-loop μ-loop
 unfolding unpacked
-returns c =
-    let s = c .before .before .before .before in
+returns-2 c =
+    let e = c .before .before in
+    let a = e .before .before .before .args in
     let l = c .before .loop in
-    all-filled 0 (packedAt (s .args .bits) (now (s .args .packed))) (l .row) (l .i) (length (now (s .args .row))) (l .inv .written) (omega arith) (l .inv .long)
+    all-filled 0 (packedAt (a .bits) (now (a .packed))) (l .row) (l .i) (length (now (a .row))) (l .inv .written) (omega arith) (l .inv .long)
+    ∙ sym (narrow (a .bits) (now (a .packed)) (now (a .row)) (e .if1 .left))
 
 pub unpack-bits-spec : {M : Type 1} → statement M
 unpack-bits-spec =
@@ -82,6 +90,7 @@ unpack-bits-spec =
     (tie.spec
     Inv-loop
     μ-loop
+    returns
     loop-holds
     number-requires
     mul-row
@@ -90,4 +99,4 @@ unpack-bits-spec =
     loop-less
     loop-again
     same-length
-    returns)
+    returns-2)

@@ -1,9 +1,9 @@
-// The engine: numbers of one width out of packed octets, bit by bit.
+// The plain engine: one bit at a time.
 ghost use mathlib.Core.Path.{_≡_};
 ghost use Prim.Native.Nat.{_+_, _*_, _^_, _≤_, _<_};
-ghost use lib.ListN.{length};
-ghost use Rattle.packing.specs.Packed.{bitAt, unpacked};
-ghost use Rattle.packing.specs.Reading.{Reading};
+ghost use Rattle.unpacking.specs.Packed.{bitAt};
+ghost use Rattle.unpacking.specs.Filled.{filled};
+ghost use Rattle.unpacking.specs.Reading.{Reading};
 
 // Bit `bit` of octet `at`, both counted from 0.
 pub struct Cursor {
@@ -17,11 +17,14 @@ pub struct Found {
     pub next: Cursor,
 }
 
-// Fills the row with the first numbers of `bits` bits.
-pub(crate) fn unpack_bits(packed: &[u8], bits: u32, row: &mut [u32])
-    requires { ⌜ bits ≤ 32 ⌝ }
-    ensures { λ _. ⌜ now (row .exit) ≡ unpacked bits (length (now (row .entry))) (now (packed .entry)) ⌝ }
+// Fills the row with its numbers; a number of more than 32 bits has no room in a place, and the row stays as it was.
+#[no_mangle]
+pub extern "C" fn unpack_bits(packed: &[u8], bits: u32, row: &mut [u32])
+    ensures { λ _. ⌜ now (row .exit) ≡ filled bits (now (packed .entry)) (now (row .entry)) ⌝ }
 {
+    if 32 < bits {
+        return;
+    }
     let mut c = Cursor { at: 0, bit: 0 };
     let mut i = 0;
     while i < row.len() {

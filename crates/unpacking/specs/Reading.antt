@@ -3,9 +3,9 @@
 use Prim.Native.Nat.{ℕ, _+_, _*_, _<_}
 use mathlib.Core.Path.{_≡_}
 use mathlib.Core.List.{List}
-use Rattle.packing.specs.Packed.{bitsFrom}
-use Rattle.packing.specs.declared.bits.Cursor.{Cursor}
-use Rattle.packing.specs.declared.bits.Found.{Found}
+use Rattle.unpacking.specs.Packed.{bitsFrom}
+use Rattle.unpacking.specs.declared.bits.Cursor.{Cursor}
+use Rattle.unpacking.specs.declared.bits.Found.{Found}
 
 -- the number that starts at a cursor, and the cursor behind it
 pub record Reading (xs : List ℕ) (bits : ℕ) (c : Cursor) (r : Found) : Type 0 where

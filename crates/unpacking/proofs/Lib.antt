@@ -1,0 +1,7 @@
+pub mod Runs
+pub mod SpareBits
+pub mod Filled
+pub mod Carried
+pub mod Full
+pub mod SameRow
+pub mod Entries

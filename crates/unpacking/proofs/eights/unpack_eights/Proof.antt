@@ -1,0 +1,29 @@
+-- `unpack_eights`: a run that has written its groups is finished.
+-- Assumes nothing.
+use mathlib.Core.Path.{_∙_, sym, ap}
+use Prim.Native.Nat.{ℕ}
+use denote.Ref.{now}
+use borrow.Author.Needs.{needs}
+use Rattle.unpacking.specs.Packed.{unpacked}
+use Rattle.unpacking.proofs.Filled.{narrow, wide}
+use Rattle.unpacking.proofs.eights.unpack_eights.Statement.{statement}
+use Rattle.unpacking.proofs.eights.unpack_eights.Tie as tie
+
+returns : tie.Need-returns
+returns c =
+    let a = c .before .before .before .args in
+    sym (wide (a .bits) (now (a .packed)) (now (a .row)) (c .if1 .taken))
+
+returns-2 : tie.Need-returns-2
+returns-2 c =
+    let r = c .before .before in
+    let w = r .before .before .before .before in
+    let e = w .before .before in
+    let a = e .before .before .before .args in
+    r .finish .ensures
+    ∙ ap (λ (n : ℕ). unpacked (a .bits) n (now (a .packed))) (w .widths .kept .1 .1 .0)
+    ∙ sym (narrow (a .bits) (now (a .packed)) (now (a .row)) (e .if1 .left))
+
+pub unpack-eights-spec : {M : Type 1} → statement M
+unpack-eights-spec =
+    tie.close (tie.spec returns (λ c κs. search needs) (λ c κs. search needs) (λ c. search needs) returns-2)
