@@ -3,6 +3,7 @@
 #define BENCH_BENCH_H
 
 void bench_unpacking(void);
+void bench_few(void);
 void bench_reading(void);
 void bench_messages(void);
 void bench_queues(void);

@@ -40,17 +40,17 @@ static double round_of(const struct job *job, uint64_t repeats) {
 }
 
 /* Also warms the caches. */
-static uint64_t repeats_for(const struct job *job) {
+static uint64_t repeats_for(const struct job *job, double milliseconds) {
     uint64_t repeats = 1;
-    while (round_of(job, repeats) < round_milliseconds() * 1e6) repeats *= 2;
+    while (round_of(job, repeats) < milliseconds * 1e6) repeats *= 2;
     return repeats;
 }
 
-void time_jobs(struct job *jobs, size_t count) {
+static void time_rounds(struct job *jobs, size_t count, double milliseconds) {
     uint64_t repeats[MOST_JOBS];
     check(count <= MOST_JOBS, "there is room for the jobs");
     for (size_t j = 0; j < count; j++) {
-        repeats[j] = repeats_for(&jobs[j]);
+        repeats[j] = repeats_for(&jobs[j], milliseconds);
         jobs[j].nanoseconds = -1;
     }
     for (unsigned round = 0; round < round_count(); round++) {
@@ -59,4 +59,12 @@ void time_jobs(struct job *jobs, size_t count) {
             if (jobs[j].nanoseconds < 0 || taken < jobs[j].nanoseconds) jobs[j].nanoseconds = taken;
         }
     }
+}
+
+void time_jobs(struct job *jobs, size_t count) {
+    time_rounds(jobs, count, round_milliseconds());
+}
+
+void time_short_jobs(struct job *jobs, size_t count) {
+    time_rounds(jobs, count, round_milliseconds() / 10);
 }

@@ -16,6 +16,9 @@ struct job {
    what else the machine does can only make a round longer. Rounds of all jobs take turns, so that a slow stretch meets all alike. */
 void time_jobs(struct job *jobs, size_t count);
 
+/* The same with rounds a tenth as long, for many jobs that are short. */
+void time_short_jobs(struct job *jobs, size_t count);
+
 /* The two settings as they are in force. */
 double round_milliseconds(void);
 unsigned round_count(void);

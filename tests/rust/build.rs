@@ -1,9 +1,9 @@
-//! Links `libskogmund.a` from the directory in SKOGMUND_LIB, or else from the one in which `tools/library` writes it for this
-//! processor. Without a library the cfg `no_library` leaves out what needs it, so that the reference's own tests still run.
+//! Links `libskogmund.a` and `libunpacking.a` from the directory in SKOGMUND_LIB, or else from the one in which `tools/library` writes
+//! them for this processor. Without both the cfg `no_library` leaves out what needs them, so that the reference's own tests still run.
 use std::env;
 use std::path::PathBuf;
 
-const ARCHIVE: &str = "libskogmund.a";
+const LIBRARIES: [&str; 2] = ["skogmund", "unpacking"];
 
 fn library_directory() -> PathBuf {
     let package =
@@ -21,19 +21,29 @@ fn library_directory() -> PathBuf {
 
 fn main() {
     let directory = library_directory();
-    let archive = directory.join(ARCHIVE);
+    let archive = |library: &str| directory.join(format!("lib{library}.a"));
     println!("cargo::rustc-check-cfg=cfg(no_library)");
     println!("cargo::rerun-if-env-changed=SKOGMUND_LIB");
-    println!("cargo::rerun-if-changed={}", archive.display());
+    for library in LIBRARIES {
+        println!("cargo::rerun-if-changed={}", archive(library).display());
+    }
     let named = env::var_os("SKOGMUND_LIB").is_some();
-    if archive.is_file() {
-        println!("cargo::rustc-link-search=native={}", directory.display());
-        println!("cargo::rustc-link-lib=static=skogmund");
-    } else if named {
-        // Whoever names a library wants it tested.
-        println!("cargo::error=no {ARCHIVE} in the directory of SKOGMUND_LIB");
-    } else {
-        println!("cargo::warning=no {ARCHIVE} for this processor: only the reference is tested");
-        println!("cargo::rustc-cfg=no_library");
+    match LIBRARIES.iter().find(|library| !archive(library).is_file()) {
+        None => {
+            println!("cargo::rustc-link-search=native={}", directory.display());
+            for library in LIBRARIES {
+                println!("cargo::rustc-link-lib=static={library}");
+            }
+        }
+        // Whoever names a directory wants its libraries tested.
+        Some(library) if named => {
+            println!("cargo::error=no lib{library}.a in the directory of SKOGMUND_LIB")
+        }
+        Some(library) => {
+            println!(
+                "cargo::warning=no lib{library}.a for this processor: only the reference is tested"
+            );
+            println!("cargo::rustc-cfg=no_library");
+        }
     }
 }

@@ -24,8 +24,11 @@ pub extern "C" fn unpack_eights(packed: &[u8], bits: u32, row: &mut [u32])
     if 32 < bits {
         return;
     }
-    let run = widths(packed, bits, row);
-    carrying::finish(packed, run, bits, row);
+    // All of the octets, as a reference of this function's own: where it stands it can't be overwritten with the row, which the compiler would allow
+    // for otherwise, and so read again in each turn.
+    let octets = &packed[0..];
+    let run = widths(octets, bits, row);
+    carrying::finish(octets, run, bits, row);
 }
 
 // As many groups as the row has places for and the octets hold, by the arm of this width. No width is left for the last arm.

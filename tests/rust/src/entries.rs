@@ -126,7 +126,7 @@ impl<T> From<&Result<T, Refusal>> for Answer {
     }
 }
 
-fn lent<T>(s: &[T]) -> *const T {
+pub(crate) fn lent<T>(s: &[T]) -> *const T {
     if s.is_empty() {
         std::ptr::null()
     } else {
@@ -134,7 +134,7 @@ fn lent<T>(s: &[T]) -> *const T {
     }
 }
 
-fn lent_to_write<T>(s: &mut [T]) -> *mut T {
+pub(crate) fn lent_to_write<T>(s: &mut [T]) -> *mut T {
     if s.is_empty() {
         std::ptr::null_mut()
     } else {

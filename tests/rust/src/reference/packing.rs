@@ -72,13 +72,21 @@ pub fn look_at_data(s: &[u8], packing: &Packing) -> Outcome<()> {
     refuse_if(s.len() as u64 != wanted, 15, DATA)
 }
 
+/// An octet that is missing counts as 0. Section 7 has all that its values need.
 fn bit(packed: &[u8], place: usize) -> u32 {
-    u32::from(packed[place / 8] >> (7 - place % 8) & 1)
+    let octet = packed.get(place / 8).copied().unwrap_or(0);
+    u32::from(octet >> (7 - place % 8) & 1)
 }
 
 /// The value that begins at this bit, most significant bit first.
 fn value(packed: &[u8], first: usize, bits: usize) -> u32 {
     (first..first + bits).fold(0, |so_far, place| so_far << 1 | bit(packed, place))
+}
+
+/// The first values of so many bits, at most 32, one after the other without a gap.
+pub fn numbers(packed: &[u8], bits: usize, places: usize) -> Vec<u32> {
+    let firsts = (0..places).map(|i| i * bits);
+    firsts.map(|first| value(packed, first, bits)).collect()
 }
 
 /// What unpacking writes into a row of so many places.
@@ -88,10 +96,7 @@ pub fn unpack(five: &[u8], seven: &[u8], places: usize) -> Outcome<Vec<u32>> {
     if places as u64 != packing.values {
         return Err(Refusal::of_none(18));
     }
-    let packed = &seven[DATA_HEAD..];
-    let bits = packing.bits as usize;
-    let row = (0..places).map(|i| value(packed, i * bits, bits));
-    Ok(row.collect())
+    Ok(numbers(&seven[DATA_HEAD..], packing.bits as usize, places))
 }
 
 #[cfg(test)]
@@ -123,6 +128,14 @@ mod tests {
             unpack(&five(3, 5), &seven(&[0x0c, 0x45]), 3),
             Ok(vec![1, 17, 2])
         );
+    }
+
+    #[test]
+    fn missing_octets_count_as_0() {
+        assert_eq!(numbers(&[0x0c, 0x44], 5, 5), [1, 17, 2, 0, 0]);
+        assert_eq!(numbers(&[0x0c], 5, 3), [1, 16, 0]);
+        assert_eq!(numbers(&[0xff; 7], 32, 2), [0xffff_ffff, 0xffff_ff00]);
+        assert_eq!(numbers(&[], 32, 2), [0, 0]);
     }
 
     #[test]

@@ -1,13 +1,13 @@
 //! Demand 3 through the entries: fields, queues and joins in any order and with repeats, after which every slot holds the greatest
 //! card that was accepted for it. What is accepted is the reference's word; which card is the greatest is worked out here from all
 //! of them together and not from one filing to the next.
-use crate::lent::hex;
 use crate::shelves::filing_in_hex;
 use skogmund_tests::entries::{self, Answer};
 use skogmund_tests::generate::filings::{Filing, Stock};
 use skogmund_tests::generate::queues::queue_of;
 use skogmund_tests::generate::shelves::{any_shelf, shelf_beside};
 use skogmund_tests::generate::Rng;
+use skogmund_tests::lent::hex;
 use skogmund_tests::reference::entries::{card, VALUES};
 use skogmund_tests::reference::queue::{records, QueueRecord};
 use skogmund_tests::reference::shelf::{Card, SLOTS};

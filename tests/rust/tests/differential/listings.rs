@@ -1,9 +1,9 @@
 //! `skogmund_list`.
-use crate::lent::{difference_of_answers, exact, hex, places_about, report, Lent};
 use crate::tally::Tally;
 use skogmund_tests::entries::{self, Answer};
 use skogmund_tests::generate::queues::queue;
 use skogmund_tests::generate::Rng;
+use skogmund_tests::lent::{difference_of_answers, exact, hex, places_about, report, Lent};
 use skogmund_tests::reference::{self, listing};
 
 /// Enough places more often than not.

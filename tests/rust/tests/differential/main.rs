@@ -6,7 +6,6 @@
 #![cfg(not(no_library))]
 
 mod histories;
-mod lent;
 mod listings;
 mod messages;
 mod parts_shown;

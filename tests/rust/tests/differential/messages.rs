@@ -1,9 +1,9 @@
 //! `skogmund_message`.
-use crate::lent::{difference_of_answers, exact, hex, places_about, report, Lent};
 use crate::tally::Tally;
 use skogmund_tests::entries::{self, Answer};
 use skogmund_tests::generate::messages::message;
 use skogmund_tests::generate::Rng;
+use skogmund_tests::lent::{difference_of_answers, exact, hex, places_about, report, Lent};
 use skogmund_tests::reference::entries::{SPANS, VALUES};
 use skogmund_tests::reference::message::{
     sections_at, Fault, Walk, DATA, MOST_FIELDS, NO_BIT_MAP, OF_A_FIELD, SECTION_0, TOTAL_AT,

@@ -1,11 +1,11 @@
 //! `skogmund_part`: several calls for each section.
-use crate::lent::{
-    damaged_by_chance, difference_of_answers, exact, hex, places_about, report, Exact, Lent,
-};
 use crate::tally::{template_kind, Tally};
 use skogmund_tests::entries::{self, Answer};
 use skogmund_tests::generate::sections::{self, Size};
 use skogmund_tests::generate::Rng;
+use skogmund_tests::lent::{
+    damaged_by_chance, difference_of_answers, exact, hex, places_about, report, Exact, Lent,
+};
 use skogmund_tests::reference::{self, grid, parts, product, Outcome};
 
 fn section_for_parts(rng: &mut Rng) -> Vec<u8> {

@@ -1,7 +1,4 @@
 //! `skogmund_read`.
-use crate::lent::{
-    damaged_by_chance, difference_of_answers, exact, hex, places_about, report, Lent,
-};
 use crate::tally::{
     points_kind, template_kind, total_kind, Beside, Tally, AT_THE_LIMIT, BY_ONE_OCTET,
     GREATEST_PRODUCT,
@@ -9,6 +6,9 @@ use crate::tally::{
 use skogmund_tests::entries::{self, Answer};
 use skogmund_tests::generate::sections::{self, Size};
 use skogmund_tests::generate::Rng;
+use skogmund_tests::lent::{
+    damaged_by_chance, difference_of_answers, exact, hex, places_about, report, Lent,
+};
 use skogmund_tests::reference::entries::VALUES;
 use skogmund_tests::reference::octets::number;
 use skogmund_tests::reference::{self, grid, Outcome, Refusal, MOST_OCTETS};

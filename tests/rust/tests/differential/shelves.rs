@@ -1,12 +1,14 @@
 //! The entries for shelves. An input is several calls one after the other on two shelves, which begin empty or as any octets, so
 //! that every entry is lent what the others made, and what none of them makes.
-use crate::lent::{change_of, difference_of_answers, exact, hex, places_about, report, Lent};
 use crate::tally::Tally;
 use skogmund_tests::entries::{self, Answer};
 use skogmund_tests::generate::filings::{Filing, Stock};
 use skogmund_tests::generate::queues::queue_of;
 use skogmund_tests::generate::shelves::{any_shelf, of_another_length, shelf_beside, slot_number};
 use skogmund_tests::generate::Rng;
+use skogmund_tests::lent::{
+    change_of, difference_of_answers, exact, hex, places_about, report, Lent,
+};
 use skogmund_tests::reference::entries::VALUES;
 use skogmund_tests::reference::shelf::{Filed, Shelf};
 use skogmund_tests::reference::shelf_octets::{is_as_written, SHELF_OCTETS};

@@ -1,9 +1,9 @@
 //! `skogmund_unpack`.
-use crate::lent::{damaged_by_chance, difference_of_answers, exact, hex, report, Lent};
 use crate::tally::{width_kind, Tally};
 use skogmund_tests::entries::{self, Answer};
 use skogmund_tests::generate::sections;
 use skogmund_tests::generate::Rng;
+use skogmund_tests::lent::{damaged_by_chance, difference_of_answers, exact, hex, report, Lent};
 use skogmund_tests::reference::{self, packing};
 
 /// Rows for more values than this are not lent.

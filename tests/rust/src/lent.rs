@@ -1,7 +1,7 @@
-//! What is lent to an entry, and what is said where it differs afterwards.
-use skogmund_tests::entries::Answer;
-use skogmund_tests::generate::damage::damage;
-use skogmund_tests::generate::Rng;
+//! What tests lend to an entry or an engine, and what is said where it differs afterwards.
+use crate::entries::Answer;
+use crate::generate::damage::damage;
+use crate::generate::Rng;
 use std::fmt::Debug;
 use std::hint::black_box;
 use std::ops::{Deref, Range};
