@@ -14,7 +14,7 @@ static struct section grids[MOST_SIZES];
 static struct queue queues[QUEUES];
 static struct message messages[MESSAGES];
 
-static uint64_t unpack_field(void *about) {
+static uint64_t unpack(void *about) {
     static uint32_t row[MOST_VALUES];
     const struct field *f = about;
     const struct section *s5 = &f->sections[SECTION_5], *s7 = &f->sections[SECTION_7];
@@ -43,7 +43,7 @@ void bench_growth(void) {
     for (size_t i = 0; i < MOST_SIZES; i++) {
         make_rain(&fields[i], 100, 10u << i, BITS);
         make_listed_grid(&grids[i], 1000u << i);
-        unpacking[i] = (struct job){unpack_field, &fields[i], 0};
+        unpacking[i] = (struct job){unpack, &fields[i], 0};
         reading[i] = (struct job){read_grid, &grids[i], 0};
     }
     for (size_t i = 0; i < QUEUES; i++) {

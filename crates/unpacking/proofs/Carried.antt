@@ -1,6 +1,6 @@
 -- The laws of a run that carries: where it begins, an octet in, a number out, and where it ends.
 -- Assumes nothing.
-use mathlib.Core.Path.{_≡_, _∙_, refl}
+use mathlib.Core.Path.{_≡_, refl}
 use mathlib.Core.List.{List}
 use Prim.Native.Nat.{ℕ, _+_, _-_, _*_, _/_, _%_, _^_, _≤_, _<_}
 use native.Mathlib.Omega.{arith}
@@ -24,13 +24,12 @@ begins bits xs row = at-octet bits xs row 0 0 (λ j h. absurd (omega arith)) (om
 
 -- ---- an octet in
 
-module _ (bits : ℕ) (xs : List ℕ) (written taken held left octet : ℕ) where
-  pub octet-in : Holds bits xs (record { taken = taken; written = written; held = held; left = left }) → octet ≡ getD xs taken 0 → octet < 256 → Holds bits xs (record { taken = taken + 1; written = written; held = held * 256 + octet; left = left + 8 })
-  octet-in h e o =
-      record {
-        place = omega (arith, h .place);
-        value = rw (octet-more xs (written * bits) left taken (h .place) (rw e at o), ← e, ← h .value);
-      }
+pub octet-in : (bits : ℕ) (xs : List ℕ) (written taken held left octet : ℕ) → Holds bits xs (record { taken = taken; written = written; held = held; left = left }) → octet ≡ getD xs taken 0 → octet < 256 → Holds bits xs (record { taken = taken + 1; written = written; held = held * 256 + octet; left = left + 8 })
+octet-in bits xs written taken held left octet h e o =
+    record {
+      place = omega (arith, h .place);
+      value = rw (octet-more xs (written * bits) left taken (h .place) (rw e at o), ← e, ← h .value);
+    }
 
 -- what is held before it fits, with the octet, into 40 bits
 pub room : (bits : ℕ) (xs : List ℕ) (run : Run) → Holds bits xs run → run .left ≤ 32 → run .held < 2 ^ 32

@@ -1,10 +1,10 @@
--- Four octets more, or fewer where that is enough: the number's bits are held.
+-- For `eights`: after four octets more, or fewer where that is enough, the number's bits are held; and the table of powers.
 -- Assumes nothing.
 use mathlib.Core.Path.{_≡_, _∙_}
 use mathlib.Core.List.{List, [], _∷_}
 use Prim.Native.Nat.{ℕ, zero, suc, _+_, _*_, _^_, _≤_, _<_}
 use native.Mathlib.Omega.{arith}
-use native.Mathlib.Nat.{one-mul, mul-assoc, pow-suc, not-suc-le-zero, le-of-suc-le-suc}
+use native.Mathlib.Nat.{one-mul, pow-suc, not-suc-le-zero, le-of-suc-le-suc}
 use lib.ListN.{getD}
 use Rattle.unpacking.specs.Standing.{Holds}
 use Rattle.unpacking.specs.Groups.{Ready, Fuller}

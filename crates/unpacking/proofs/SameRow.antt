@@ -12,7 +12,7 @@ use Rattle.unpacking.proofs.Filled.{narrow}
 use Rattle.unpacking.proofs as code
 
 -- what a row held before makes no difference, so long as it has as many places
-pub same-row : (bits : ℕ) (xs one two : List ℕ) → bits ≤ 32 → length one ≡ length two → filled bits xs one ≡ filled bits xs two
+same-row : (bits : ℕ) (xs one two : List ℕ) → bits ≤ 32 → length one ≡ length two → filled bits xs one ≡ filled bits xs two
 same-row bits xs one two h e =
     narrow bits xs one h ∙ (λ i. unpacked bits (e i) xs) ∙ sym (narrow bits xs two h)
 

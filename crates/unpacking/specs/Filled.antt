@@ -1,4 +1,4 @@
--- What each engine leaves of a lent row: the whole promise of the three.
+-- What `unpack_bits`, `unpack_octets` and `unpack` leave of a lent row: the whole promise of each.
 -- Assumes nothing.
 use Prim.Native.Nat.{ℕ}
 use mathlib.Core.List.{List}

@@ -1,4 +1,4 @@
--- What the engine's function for one number promises.
+-- What the plain engine's function for one number promises.
 -- Assumes nothing.
 use Prim.Native.Nat.{ℕ, _+_, _*_, _<_}
 use mathlib.Core.Path.{_≡_}

@@ -2,8 +2,8 @@
 // the crate, which calls it, can call `carrying` in its place.
 //
 // Its speed hangs on what the compiler makes of it. With a literal width in an arm it knows which octets each of the eight numbers crosses, and every
-// power. For that it has to copy a group into the arm before it unrolls it: so the count is not eight in every arm, and a group is kept small (no test
-// whether an octet is there, and the powers in a table, which is less than the arms of `carrying::power`). `bench/run --check` fails where this is lost.
+// power. For that it has to copy a group into the arm, which it does only with a small one: so no test is made whether an octet is there, and the
+// powers are a table, which it takes for less than the arms of `carrying::power`. `bench/run --check` fails where this is lost.
 ghost use mathlib.Core.Path.{_≡_};
 ghost use Prim.Native.Nat.{_+_, _*_, _≤_, _<_};
 ghost use lib.ListN.{length};
@@ -15,8 +15,19 @@ use crate::carrying::Run;
 
 const POWERS: [u64; 8] = [1, 2, 4, 8, 16, 32, 64, 128];
 
-// Fills the row as `carrying` does: groups of eight as far as there are octets, and then the rest as `carrying` takes it. It is marked for C to stay
-// a function of its own: copied into `unpack`, it would have that save registers where there are few numbers too.
+// Fills the row as `carrying` does, which needs no help with fewer than eight numbers.
+pub(crate) fn few_or_eights(packed: &[u8], bits: u32, row: &mut [u32])
+    ensures { λ _. ⌜ now (row .exit) ≡ filled bits (now (packed .entry)) (now (row .entry)) ⌝ }
+{
+    if row.len() < 8 {
+        carrying::unpack_octets(packed, bits, row);
+    } else {
+        unpack_eights(packed, bits, row);
+    }
+}
+
+// Groups of eight as far as there are octets, and then the rest as `carrying` takes it. It is marked for C so that the compiler keeps it apart in the
+// library of the engines: copied into `unpack`, it would have that save registers where there are few numbers too.
 #[no_mangle]
 pub extern "C" fn unpack_eights(packed: &[u8], bits: u32, row: &mut [u32])
     ensures { λ _. ⌜ now (row .exit) ≡ filled bits (now (packed .entry)) (now (row .entry)) ⌝ }
@@ -24,14 +35,14 @@ pub extern "C" fn unpack_eights(packed: &[u8], bits: u32, row: &mut [u32])
     if 32 < bits {
         return;
     }
-    // All of the octets, as a reference of this function's own: where it stands it can't be overwritten with the row, which the compiler would allow
-    // for otherwise, and so read again in each turn.
+    // The address and the length of the octets as a local: the caller's lie in memory, which the compiler takes to be changed by each write to the
+    // row, and would read again in each turn.
     let octets = &packed[0..];
     let run = widths(octets, bits, row);
     carrying::finish(octets, run, bits, row);
 }
 
-// As many groups as the row has places for and the octets hold, by the arm of this width. No width is left for the last arm.
+// As many groups as the row has places for and the octets hold, by the arm of this width.
 fn widths(packed: &[u8], bits: u32, row: &mut [u32]) -> Run
     requires { ⌜ bits ≤ 32 ⌝ }
     ensures { λ r. ⌜ Stands bits (now (packed .entry)) (now (row .exit)) r ⌝ }
@@ -54,6 +65,17 @@ fn widths(packed: &[u8], bits: u32, row: &mut [u32]) -> Run
         14 => groups(packed, 14, 8, 14, bits, row),
         15 => groups(packed, 15, 8, 15, bits, row),
         16 => groups(packed, 16, 8, 16, bits, row),
+        _ => wider(packed, bits, row),
+    }
+}
+
+// The arms above 16 bits. No width is left for the last: its count is not eight, since with eight in every arm the compiler would unroll a group before
+// it copies it, and then not copy it.
+fn wider(packed: &[u8], bits: u32, row: &mut [u32]) -> Run
+    requires { ⌜ bits ≤ 32 ⌝ }
+    ensures { λ r. ⌜ Stands bits (now (packed .entry)) (now (row .exit)) r ⌝ }
+{
+    match bits {
         17 => groups(packed, 17, 8, 17, bits, row),
         18 => groups(packed, 18, 8, 18, bits, row),
         19 => groups(packed, 19, 8, 19, bits, row),

@@ -8,15 +8,10 @@ pub mod bits;
 pub mod carrying;
 mod eights;
 
-// Fills the row: what the readers of sections call. Fewer than eight numbers make no group of `eights`. Without that module this is the call of
-// `carrying` alone.
+// Fills the row: what `packing` calls. Without `eights` this is `carrying::unpack_octets`.
 #[no_mangle]
 pub extern "C" fn unpack(packed: &[u8], bits: u32, row: &mut [u32])
     ensures { λ _. ⌜ now (row .exit) ≡ filled bits (now (packed .entry)) (now (row .entry)) ⌝ }
 {
-    if row.len() < 8 {
-        carrying::unpack_octets(packed, bits, row);
-    } else {
-        eights::unpack_eights(packed, bits, row);
-    }
+    eights::few_or_eights(packed, bits, row);
 }

@@ -1,4 +1,4 @@
--- `packed::bit`: a bit of an octet that is there, and 0 past the end.
+-- `bit`: a bit of an octet that is there, and 0 past the end.
 -- Assumes nothing.
 use mathlib.Core.Path.{sym}
 use native.Mathlib.Omega.{arith}

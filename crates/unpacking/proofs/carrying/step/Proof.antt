@@ -1,14 +1,12 @@
 -- `step`: octets are held until they have the number's bits; what parts it from the bits behind it is a power of two.
 -- Assumes nothing.
-use mathlib.Core.Path.{_≡_, _∙_, refl}
-use mathlib.Core.List.{List}
-use Prim.Native.Nat.{ℕ, _+_, _-_, _*_, _≤_, _<_}
+use mathlib.Core.Path.{refl}
+use Prim.Native.Nat.{_+_, _-_, _<_}
 use native.Mathlib.Nat.{mul-le-mul-left}
 use native.Mathlib.Omega.{arith}
-use lib.ListN.{length, length-set}
+use lib.ListN.{length-set}
 use denote.Ref.{now}
-use Rattle.unpacking.specs.Standing.{Holds, Stands}
-use Rattle.unpacking.specs.declared.carrying.Run.{Run}
+use Rattle.unpacking.specs.Standing.{Holds}
 use Rattle.unpacking.proofs.Carried.{octet-in, room, weight-positive, number-fits, number-out}
 use Rattle.unpacking.proofs.carrying.step.Statement.{statement}
 use Rattle.unpacking.proofs.carrying.step.Tie as tie
@@ -69,6 +67,12 @@ div-number c = weight-positive _ _ _ (c .before .before .loop .inv .0) (c .befor
 rem-rest : tie.Need-rem-rest Inv-loop μ-loop
 rem-rest c = div-number c
 
+returns : tie.Need-returns Inv-loop μ-loop
+returns c =
+    let s = c .before .before .before .before .before in
+    let l = c .before .before .loop in
+    (number-out (s .args .bits) (now (s .args .packed)) _ (l .inv .0) (c .before .loop-test .left) (c .power .result) (c .power .ensures) (now (s .args .row)) (s .pre .0 .first) (s .pre .1) (l .inv .1), refl)
+
 cast-row : tie.Need-cast-row Inv-loop μ-loop
 cast-row c =
     let s = c .before .before .before .before .before in
@@ -87,12 +91,6 @@ same-length : tie.Need-same-length Inv-loop μ-loop
 same-length c =
     let a = c .before .before .before .before .before .args in
     length-set (now (a .row)) (a .run .written) _
-
-returns : tie.Need-returns Inv-loop μ-loop
-returns c =
-    let s = c .before .before .before .before .before in
-    let l = c .before .before .loop in
-    (number-out (s .args .bits) (now (s .args .packed)) _ (l .inv .0) (c .before .loop-test .left) (c .power .result) (c .power .ensures) (now (s .args .row)) (s .pre .0 .first) (s .pre .1) (l .inv .1), refl)
 
 pub step-spec : {M : Type 1} → statement M
 step-spec =

@@ -2,12 +2,11 @@
 -- Assumes nothing.
 use mathlib.Core.Path.{_≡_, refl}
 use mathlib.Core.List.{List}
-use Prim.Native.Nat.{ℕ, _+_, _-_, _*_, _≤_}
+use Prim.Native.Nat.{ℕ, _+_, _-_, _≤_}
 use native.Mathlib.Nat.{mul-le-mul-right}
 use native.Mathlib.Omega.{arith}
 use lib.ListN.{length}
-use denote.Ref.{now}
-use Rattle.unpacking.specs.Standing.{Stands, First}
+use Rattle.unpacking.specs.Standing.{Stands}
 use Rattle.unpacking.specs.declared.carrying.Run.{Run}
 use Rattle.unpacking.proofs.Runs.{next-place}
 use Rattle.unpacking.proofs.eights.group.Statement.{statement}

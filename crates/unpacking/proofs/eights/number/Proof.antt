@@ -2,9 +2,9 @@
 -- Assumes nothing.
 use mathlib.Core.Path.{_≡_, ap, subst⁻¹}
 use mathlib.Core.List.{[], _∷_}
-use Prim.Native.Nat.{ℕ, _+_, _-_, _^_, _≤_, _<_}
+use Prim.Native.Nat.{ℕ, _+_, _-_, _^_, _<_}
 use native.Mathlib.Omega.{arith}
-use lib.ListN.{length, getD, length-set}
+use lib.ListN.{getD}
 use denote.Ref.{now}
 use borrow.Author.Needs.{needs}
 use Rattle.unpacking.specs.Standing.{First}
@@ -12,6 +12,14 @@ use Rattle.unpacking.proofs.Carried.{weight-positive, number-fits, numb
 use Rattle.unpacking.proofs.Full.{still-ready, Full, full, eight-powers}
 use Rattle.unpacking.proofs.eights.number.Statement.{statement}
 use Rattle.unpacking.proofs.eights.number.Tie as tie
+
+abbrev start : tie.After-fill4 → tie.Start
+start c = c .before .before .before .before .before .before
+
+bits-held : (c : tie.After-fill4) → Full (start c .args .bits) (now (start c .args .packed)) (start c .args .run) (c .fill4 .result)
+bits-held c =
+    let s = start c in
+    full (s .pre .2 .narrow) (s .pre .0 .few) (c .before .before .before .fill .ensures) (c .before .before .fill2 .ensures) (c .before .fill3 .ensures) (c .fill4 .ensures)
 
 fill-requires-2 : tie.Need-fill-requires-2
 fill-requires-2 c κs = still-ready (c .before .before .before .pre .2) (c .fill .ensures)
@@ -21,14 +29,6 @@ fill-requires-3 c κs = still-ready (fill-requires-2 (c .before) κs) (c .fill2 
 
 fill-requires-4 : tie.Need-fill-requires-4
 fill-requires-4 c κs = still-ready (fill-requires-3 (c .before) κs) (c .fill3 .ensures)
-
-abbrev start : tie.After-fill4 → tie.Start
-start c = c .before .before .before .before .before .before
-
-bits-held : (c : tie.After-fill4) → Full (start c .args .bits) (now (start c .args .packed)) (start c .args .run) (c .fill4 .result)
-bits-held c =
-    let s = start c in
-    full (s .pre .2 .narrow) (s .pre .0 .few) (c .before .before .before .fill .ensures) (c .before .before .fill2 .ensures) (c .before .fill3 .ensures) (c .fill4 .ensures)
 
 sub-left : tie.Need-sub-left
 sub-left c = bits-held (c .before) .enough
