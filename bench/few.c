@@ -34,15 +34,16 @@ struct few {
     size_t octets;
 };
 
+/* What is passed is copied first: a call might change it where it lies, and it would be read again for each. */
 static uint64_t by_ours(void *about) {
-    const struct few *few = about;
-    for (int i = 0; i < CALLS; i++) ours(field.sections[SECTION_7].octets + 5, few->octets, few->bits, rows.ours, few->values);
+    const struct few few = *(const struct few *)about;
+    for (int i = 0; i < CALLS; i++) ours(field.sections[SECTION_7].octets + 5, few.octets, few.bits, rows.ours, few.values);
     return rows.ours[0];
 }
 
 static uint64_t by_gbits(void *about) {
-    const struct few *few = about;
-    for (int i = 0; i < CALLS; i++) theirs(field.sections[SECTION_7].octets + 5, rows.gbits, 0, few->bits, 0, (g2int)few->values);
+    const struct few few = *(const struct few *)about;
+    for (int i = 0; i < CALLS; i++) theirs(field.sections[SECTION_7].octets + 5, rows.gbits, 0, few.bits, 0, (g2int)few.values);
     return (uint64_t)rows.gbits[0];
 }
 
