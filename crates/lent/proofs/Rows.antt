@@ -2,12 +2,12 @@
 -- Assumes nothing.
 use mathlib.Core.Path.{_≡_, refl, ap, sym, subst, _∙_}
 use mathlib.Core.List.{List, [], _∷_, _++_, append-nil}
-use Prim.Native.Nat.{ℕ, zero, suc, _+_, _≤_, _<_}
+use Prim.Native.Nat.{ℕ, zero, suc, _+_, _-_, _≤_, _<_}
 use native.Mathlib.Nat.{add-zero, add-suc, suc-add, zero-add, lt-irrefl, not-suc-le-zero, le-of-suc-le-suc}
 use native.Mathlib.Numerals.{add-one}
 use native.Mathlib.Omega.{arith}
-use lib.ListN.{length, getD, set, drop, length-set, drop-of-length-le}
-use lib.Seq.{sets, sets-eq, drop-cons, ext-getD, getD-set-same, getD-set-other}
+use lib.ListN.{length, getD, set, take, drop, length-set, length-drop, drop-of-length-le}
+use lib.Seq.{take-all, sets, sets-eq, drop-cons, ext-getD, getD-set-same, getD-set-other}
 use borrow.Author.Count.{below-more}
 use Rattle.lent.specs.Lent.{over}
 use Rattle.lent.specs.Rows.{eachFrom}
@@ -53,6 +53,10 @@ each-same d f g n h = all-filled d g (eachFrom f 0 n) n n (λ j l. each-filled d
 -- ---- by the values of a list
 
 module _ {A : Type 0} where
+  -- a part that goes on to the end
+  pub to-the-end : (k : ℕ) (l : List A) → take (length l - k) (drop k l) ≡ drop k l
+  to-the-end k l = take-all (length l - k) (drop k l) (omega (arith, length-drop k l))
+
   -- values, and others behind them
   pub sets-both : (vs ws row : List A) (i : ℕ) → sets (sets row i vs) (i + length vs) ws ≡ sets row i (vs ++ ws)
   sets-both [] ws row i = ap (λ (k : ℕ). sets row k ws) (add-zero i)

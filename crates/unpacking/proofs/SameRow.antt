@@ -24,6 +24,6 @@ by-promise bits bits′ xs xs′ one two after later p q x b h l =
 pub plain-and-carrying : SameRow code.bits.unpack_bits.Reads.Learnt code.carrying.unpack_octets.Reads.Learnt (λ given. now (given .0)) (λ given. given .1 .0) (λ given. now (given .1 .1 .0)) (λ later. now (later .1 .1 .0))
 plain-and-carrying lent lent′ given given′ r r′ later later′ = by-promise _ _ _ _ _ _ _ _
 
--- the plain one and what the section readers call
+-- the plain one and what `packing` calls
 pub plain-and-called : SameRow code.bits.unpack_bits.Reads.Learnt code.unpack.Reads.Learnt (λ given. now (given .0)) (λ given. given .1 .0) (λ given. now (given .1 .1 .0)) (λ later. now (later .1 .1 .0))
 plain-and-called lent lent′ given given′ r r′ later later′ = by-promise _ _ _ _ _ _ _ _

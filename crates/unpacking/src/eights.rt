@@ -5,7 +5,7 @@
 // power. For that it has to copy a group into the arm, which it does only with a small one: so no test is made whether an octet is there, and the
 // powers are a table, which it takes for less than the arms of `carrying::power`. `bench/run --check` fails where this is lost.
 ghost use mathlib.Core.Path.{_≡_};
-ghost use Prim.Native.Nat.{_+_, _*_, _≤_, _<_};
+ghost use Prim.Native.Nat.{_+_, _≤_, _<_};
 ghost use lib.ListN.{length};
 ghost use Rattle.unpacking.specs.Filled.{filled};
 ghost use Rattle.unpacking.specs.Standing.{Stands, First};

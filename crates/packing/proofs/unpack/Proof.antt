@@ -3,6 +3,7 @@
 use Rattle.octets.proofs.Free.{free}
 use Rattle.layout.specs.Fields.{Value}
 use Rattle.layout.specs.Outcomes.{read, refusedBy}
+use Rattle.lent.proofs.Rows.{to-the-end}
 use Rattle.unpacking.specs.Packed.{unpacked}
 use Rattle.unpacking.proofs.Filled.{narrow}
 use Rattle.packing.specs.Section5.{outcome₅, valuesIn₅, valuesAt, bitsAt, refusalIn₅, told₅}
@@ -10,11 +11,10 @@ use Rattle.packing.specs.Section7.{outcome₇, refusalIn₇, told₇}
 use Rattle.packing.proofs.AcceptedExactlyWhen.{accepted-follows₇}
 use Rattle.layout.proofs.Outcomes.{answer-is}
 use Rattle.packing.proofs.Unpacks.{Known, known, five-refused, seven-refused, row-refused, all-written}
-use Prim.Native.Nat.{ℕ, _≤_, _-_}
+use Prim.Native.Nat.{ℕ, _≤_}
 use mathlib.Core.List.{List}
 use mathlib.Core.Path.{_≡_, sym, ap, _∙_}
-use lib.ListN.{length, take, drop, length-drop}
-use lib.Seq.{take-all}
+use lib.ListN.{length}
 use denote.Ref.{now}
 use native.Mathlib.Omega.{arith}
 use borrow.Author.Needs.{needs}
@@ -87,10 +87,6 @@ sub-unpack c = five-there (c .before .before)
 part-unpack-start : tie.Need-part-unpack-start
 part-unpack-start c = five-there (c .before .before)
 
--- the octets from octet 6 on
-from-six : (s : List ℕ) → take (length s - 5) (drop 5 s) ≡ drop 5 s
-from-six s = take-all (length s - 5) (drop 5 s) (omega (arith, length-drop 5 s))
-
 returns-4 : tie.Need-returns-4
 unfolding SevenRead
 returns-4 c =
@@ -103,7 +99,7 @@ returns-4 c =
     let numbers =
     c .before .before .unpack .ensures
     ∙ narrow _ _ (now (a .row)) (k .narrow)
-    ∙ (λ i. unpacked (k .bits i) (long i) (from-six (now (a .section7)) i)) in
+    ∙ (λ i. unpacked (k .bits i) (long i) (to-the-end 5 (now (a .section7)) i)) in
     all-written (now (a .section5)) (now (a .section7)) (now (a .row)) _ (five-read (t .before .before)) (seven .0) (seven .1) _ _ long (k .values) numbers
 
 pub unpack-spec : {M : Type 1} → statement M

@@ -98,21 +98,21 @@ loop-again c =
       nothing = refl;
     }
 
+-- by the width as it is in the contract
+by-bits : (l : tie.At-loop Inv-loop μ-loop) → Stands (start l .args .bits) (now (start l .args .packed)) (l .loop .row) (l .loop .run)
+by-bits l = subst (λ (b : ℕ). Stands b (now (start l .args .packed)) (l .loop .row) (l .loop .run)) (start l .pre .same) (l .loop .inv .stands)
+
 same-length : tie.Need-same-length Inv-loop μ-loop
 same-length c = c .before .before .before .before .loop .inv .long
 
 returns : tie.Need-returns Inv-loop μ-loop
-returns c =
-    let l = c .before .before .before .before in
-    subst (λ (b : ℕ). Stands b (now (start l .args .packed)) (l .loop .row) (l .loop .run)) (start l .pre .same) (l .loop .inv .stands)
+returns c = by-bits (c .before .before .before .before)
 
 same-length-2 : tie.Need-same-length-2 Inv-loop μ-loop
 same-length-2 c = c .before .before .loop .inv .long
 
 returns-2 : tie.Need-returns-2 Inv-loop μ-loop
-returns-2 c =
-    let l = c .before .before in
-    subst (λ (b : ℕ). Stands b (now (start l .args .packed)) (l .loop .row) (l .loop .run)) (start l .pre .same) (l .loop .inv .stands)
+returns-2 c = by-bits (c .before .before)
 
 pub groups-spec : {M : Type 1} → statement M
 groups-spec =

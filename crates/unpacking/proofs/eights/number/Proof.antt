@@ -4,7 +4,7 @@ use mathlib.Core.Path.{_≡_, ap, subst⁻¹}
 use mathlib.Core.List.{[], _∷_}
 use Prim.Native.Nat.{ℕ, _+_, _-_, _^_, _<_}
 use native.Mathlib.Omega.{arith}
-use lib.ListN.{getD}
+use lib.ListN.{length, getD}
 use denote.Ref.{now}
 use borrow.Author.Needs.{needs}
 use Rattle.unpacking.specs.Standing.{First}
@@ -60,15 +60,15 @@ cast-row c =
     let f = bits-held d in
     record { fits = number-fits _ _ _ (f .holds) (f .enough) _ (weight d) (start d .pre .2 .narrow) }
 
+-- the place is one of the row's
+in-row : (c : tie.After-fill4) → c .fill4 .result .written < length (now (start c .args .row))
+in-row c = omega (arith, bits-held c .same, start c .pre .1)
+
 mul-row : tie.Need-mul-row
-mul-row c =
-    let d = c .before .before .before in
-    omega (arith, bits-held d .same, start d .pre .1, start d .good)
+mul-row c = let d = c .before .before .before in omega (arith, in-row d, start d .good)
 
 add-written : tie.Need-add-written
-add-written c =
-    let d = c .before .before .before in
-    omega (arith, bits-held d .same, start d .pre .1, start d .good)
+add-written c = let d = c .before .before .before in omega (arith, in-row d, start d .good)
 
 returns : tie.Need-returns
 returns c =
@@ -78,7 +78,7 @@ returns c =
     let row = now (s .args .row) in
     let f = bits-held d in
     let first = subst⁻¹ (First (s .args .bits) xs row) (f .same) (s .pre .0 .first) in (
-      number-out _ _ _ (f .holds) (f .enough) _ (weight d) row first (omega (arith, f .same, s .pre .1)) (f .few),
+      number-out _ _ _ (f .holds) (f .enough) _ (weight d) row first (in-row d) (f .few),
       ap (λ (n : ℕ). n + 1) (f .same),
     )
 
