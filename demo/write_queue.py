@@ -8,7 +8,7 @@ prints
 
     slot year month day hour minute second issue template
     7 2024 3 7 0 0 0 40 0
-    9 2024 3 7 12 0 0 4294967295 0
+    9 2024 3 7 12 0 0 0 0
     kept 2 passed 1 refused 0
 """
 import sys
@@ -87,8 +87,8 @@ def groups_of_seven(n):
 
 
 def record(slot, issue, *sections):
-    """A record: slot (0 to 63), issue + 1 (0 where no issue is named, and its card then has the greatest issue, 4294967295), the body's
-    length, and the body: sections 1, 3, 4, 5 and 7 back to back, without sections 0, 2, 6 and 8 of a message."""
+    """A record: slot (0 to 63), issue + 1 (0 where no issue is named), the body's length, and the body: sections 1, 3, 4, 5 and 7 back to back,
+    without sections 0, 2, 6 and 8 of a message."""
     body = b"".join(sections)
     return groups_of_seven(slot) + groups_of_seven(0 if issue is None else issue + 1) + groups_of_seven(len(body)) + body
 
@@ -101,5 +101,5 @@ def temperature(slot, issue, day, hour):
 
 if __name__ == "__main__":
     # A queue is its records one after the other, at most 65,536 octets. Here the second is passed, since its run is older, whatever its issue; the
-    # third names no issue, so that its card has issue 4294967295.
+    # third names no issue.
     sys.stdout.buffer.write(temperature(7, 40, 7, 0) + temperature(7, 41, 5, 12) + temperature(9, None, 7, 12))

@@ -7,8 +7,8 @@
    kept between calls, and there is no heap. No entry asks for more than pointers that are valid for their lengths, and slices that do not
    overlap one that is written to. A refusal leaves everything lent as it was.
 
-   Stack, in octets, by the frames of the compiled entries: list 52,000; file_queue 29,000; reload 20,000; file 17,000; join 13,000; empty
-   10,000; message 5,000; the others below 2,000. */
+   Stack, in octets, by the frames of the compiled entries: list 52,000; file_queue 29,000; file 17,000; join 13,000; empty 10,000; message
+   5,000; the others below 2,000. */
 #ifndef SKOGMUND_H
 #define SKOGMUND_H
 
@@ -21,7 +21,7 @@
 
 /* The version of what is declared here: the first number rises where an entry or a name that was there changes or goes, the second where one
    is new. */
-#define SKOGMUND_VERSION_MAJOR 5
+#define SKOGMUND_VERSION_MAJOR 4
 #define SKOGMUND_VERSION_MINOR 0
 #define SKOGMUND_VERSION (SKOGMUND_VERSION_MAJOR * 1000 + SKOGMUND_VERSION_MINOR)
 
@@ -104,9 +104,8 @@ uint64_t skogmund_message(const uint8_t *message, size_t n, uint64_t *spans, siz
 /* ---- queues */
 
 /* What the program `listing` prints for this queue, at the start of the text buffer, and its length in length[0]. Of a queue that is refused
-   that is the line `refused N`, and the answer is 0. A record whose issue + 1 is 0 names none, and its card is listed with 4294967295. 18
-   where the text doesn't fit or there is no place for the length (`one` is 0). What is behind the text and past the first place stays as it
-   was. No listing has more than 16,384 octets. */
+   that is the line `refused N`, and the answer is 0. 18 where the text doesn't fit or there is no place for the length (`one` is 0). What is
+   behind the text and past the first place stays as it was. No listing has more than 16,384 octets. */
 uint64_t skogmund_list(const uint8_t *queue, size_t n, uint8_t *text, size_t places, uint64_t *length, size_t one);
 
 /* ---- shelves
@@ -124,24 +123,15 @@ uint64_t skogmund_list(const uint8_t *queue, size_t n, uint8_t *text, size_t pla
 /* The empty shelf, all zero. */
 uint64_t skogmund_empty(uint8_t *shelf, size_t octets);
 
-/* Files a field; kept[0] is 1 where the slot holds another card than before, and otherwise 0. issue_plus_1 is 0 where no issue is named; the
-   card's issue is then 4,294,967,295 (up to version 4.0 it was 0), so that it takes the place of every card of the same reference time and
-   a lower issue. A field that a trailer has stored and files again after a repair is one for skogmund_reload. 19 where issue_plus_1 is above
-   4,294,967,296; 16; the refusals of sections 1, 3, 4, 5 (with 14) and 7; 17; then 18, also where there is no place for the answer (`one` is
-   0). */
+/* Files a field; kept[0] is 1 where the slot holds another card than before, and otherwise 0. issue_plus_1 is 0 where no issue is named. 19
+   where it is above 4,294,967,296; 16; the refusals of sections 1, 3, 4, 5 (with 14) and 7; 17; then 18, also where there is no place for the
+   answer (`one` is 0). */
 uint64_t skogmund_file(uint8_t *shelf, size_t octets, uint64_t slot, uint64_t issue_plus_1, const uint8_t *section1, size_t n1,
                        const uint8_t *section3, size_t n3, const uint8_t *section4, size_t n4, const uint8_t *section5, size_t n5,
                        const uint8_t *section7, size_t n7, uint64_t *kept, size_t one);
 
-/* The bench reload: files a stored field again after a repair, as skogmund_file does with issue 0 named (issue_plus_1 of 1), so that a slot
-   which holds a card of the same reference time and an issue above 0 stays as it is. The refusals of skogmund_file, in the same order,
-   without 19. */
-uint64_t skogmund_reload(uint8_t *shelf, size_t octets, uint64_t slot, const uint8_t *section1, size_t n1, const uint8_t *section3, size_t n3,
-                         const uint8_t *section4, size_t n4, const uint8_t *section5, size_t n5, const uint8_t *section7, size_t n7,
-                         uint64_t *kept, size_t one);
-
-/* Files a queue; counts[0], counts[1] and counts[2] are its records kept, passed and refused. A record whose issue + 1 is 0 names none, as with
-   skogmund_file. 2 or 19, then 18, also where there are fewer than three places for the counts. */
+/* Files a queue; counts[0], counts[1] and counts[2] are its records kept, passed and refused. 2 or 19, then 18, also where there are fewer
+   than three places for the counts. */
 uint64_t skogmund_file_queue(uint8_t *shelf, size_t octets, const uint8_t *queue, size_t n, uint64_t *counts, size_t three);
 
 /* Joins another shelf in, slot by slot; 18 where one of the two has another length. The other must not be the shelf itself, which would

@@ -11,8 +11,8 @@ pub(crate) struct Shelves {
     pub(crate) other: Shelf,
 }
 
-// What a line asks for: `f SLOT ISSUE+1 / five sections` files a field (0: no issue named), `b SLOT / five sections` reloads one at the
-// bench, `e` empties the shelf, `x` changes the two over, `j` joins the other in, and `s` shows what is held.
+// What a line asks for: `f SLOT ISSUE+1 / five sections` files a field (0: no issue named), `b SLOT 0 / five sections` reloads one at
+// the bench, `e` empties the shelf, `x` changes the two over, `j` joins the other in, and `s` shows what is held.
 pub(crate) fn run(line: &[u8], order: u8, shelves: Shelves) -> Shelves {
     let here = shelves.here;
     let other = shelves.other;

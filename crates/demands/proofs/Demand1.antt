@@ -43,12 +43,12 @@ pub use Rattle.filing.proofs.RefusalNumbers.{filing-refuses}
 pub use Rattle.queue.proofs.RefusalNumbers.{record-refuses, queue-refuses, queue-number}
 pub use Rattle.values.proofs.RecordRead.{read-into-refuses}
 -- Of the entries for C: each answers 0, or one number for a refusal that a table lists, and no two refusals have the same;
-pub use Rattle.demands.proofs.NumbersForC.{unpack-answers, read-answers, part-answers, list-answers, message-answers, empty-answers, join-answers, slot-answers, field-answers, reload-answers, queue-answers, one-refusal}
+pub use Rattle.demands.proofs.NumbersForC.{unpack-answers, read-answers, part-answers, list-answers, message-answers, empty-answers, join-answers, slot-answers, field-answers, queue-answers, one-refusal}
 -- it can be taken apart, and is 0 exactly where nothing is refused (of `skogmund_read`: `told-exactly-when`, demand 2)
-pub use Rattle.skogmund.proofs.Answered.{taken-apart, listed-code, unpacked-exactly-when, part-exactly-when, listed-exactly-when, message-exactly-when, emptied-exactly-when, joined-exactly-when, shown-exactly-when, filed-exactly-when, reloaded-exactly-when, queue-exactly-when}
+pub use Rattle.skogmund.proofs.Answered.{taken-apart, listed-code, unpacked-exactly-when, part-exactly-when, listed-exactly-when, message-exactly-when, emptied-exactly-when, joined-exactly-when, shown-exactly-when, filed-exactly-when, queue-exactly-when}
 -- "A refusal changes no shelf and no lent buffer.": the theorems of this file, and of `values::read_into` and the entries for C
 pub use Rattle.values.proofs.RecordRead.{row_stays}
-pub use Rattle.skogmund.proofs.RefusalsLeaveAll.{unpack-leaves, read-leaves, part-leaves, list-leaves, message-leaves, empty-leaves, join-leaves, field-leaves, reload-leaves, queue-leaves, slot-leaves}
+pub use Rattle.skogmund.proofs.RefusalsLeaveAll.{unpack-leaves, read-leaves, part-leaves, list-leaves, message-leaves, empty-leaves, join-leaves, field-leaves, queue-leaves, slot-leaves}
 use Prim.Native.Nat.{ℕ}
 use mathlib.Core.Path.{◌≡◌, refl, sym, ap, ◌∙◌}
 use mathlib.Core.List.{List}

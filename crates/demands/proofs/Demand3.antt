@@ -9,7 +9,7 @@
 -- of shelves as octets, which are stored or sent between two calls
 pub use Rattle.demands.proofs.ShelvesAsOctets.{history-read-back, octets-greatest-card, zeroed-writes, none-held-leaves, any-octets-leave, octets-queue-is-joining, octets-queue-again, octets-join-commutes, octets-join-associates, octets-join-idempotent}
 -- of the entries for C, which leave the octets of a history's shelf
-pub use Rattle.demands.proofs.ShelvesForC.{c-empties, c-joins, c-files, c-reloads, c-files-queue, c-shows, c-field-told, c-reload-told, c-queue-told}
+pub use Rattle.demands.proofs.ShelvesForC.{c-empties, c-joins, c-files, c-files-queue, c-shows, c-field-told, c-queue-told}
 -- The rest are the theorems of this file.
 use Prim.Native.Nat.{ℕ, ◌<◌, ◌≤◌}
 use mathlib.Core.Path.{◌≡◌, refl, sym, ap, subst, subst⁻¹, ◌∙◌}
@@ -32,7 +32,6 @@ use Rattle.card.specs.Key.{time_of, SameTime, key_of, less_card}
 use Rattle.card.proofs.Strict.{asym, either_less}
 use Rattle.card.proofs.Lex.{lex-front}
 use Rattle.card.proofs.Cards.{key-decides, number-decides, key-at, card-strict}
-use Rattle.card.proofs.Ties.{same-time, by-issue}
 use Rattle.shelf.specs.Shelves.{less_slot, holding, empty_shelf, slot_at, put_of, join_shelf}
 use Rattle.shelf.specs.History.{Keeps}
 use Rattle.shelf.specs.declared.Slot.{Slot}
@@ -132,8 +131,8 @@ filing-accepted slot x = filed-exactly-when slot x.issue x.s1 x.s3 x.s4 x.s5 x.s
 pub filing-card : (slot : ℕ) (x : FiledField) (card : Card) → filing_of slot x.issue x.s1 x.s3 x.s4 x.s5 x.s7 ≡ accepted card → (template : Template) → Follows₁ template x.s1 → card ≡ card_at template x.s1 (issue_of x.issue) x.s4
 filing-card slot x = filed-card slot x.issue x.s1 x.s3 x.s4 x.s5 x.s7
 
--- a caller that names no issue gets issue 4,294,967,295
-pub issue-not-named : issue_of NotNamed ≡ 4294967295
+-- "A caller that names no issue gets issue 0"
+pub issue-not-named : issue_of NotNamed ≡ 0
 issue-not-named = refl
 
 -- and one that names an issue gets that one
@@ -203,8 +202,12 @@ pub second-decides : (a b : Card) → a.year ≡ b.year → a.month ≡ b.month 
 unfolding key_of
 second-decides a b year month day hour minute d = number-decides a b _ _ a.second b.second _ _ refl refl (λ i. year i ∷ pos (month i) ∷ pos (day i) ∷ pos (hour i) ∷ pos (minute i) ∷ []) d
 
+same-time : (a b : Card) → SameTime a b → time_of a ≡ time_of b
+same-time a b t = λ i. t.year i ∷ pos (t.month i) ∷ pos (t.day i) ∷ pos (t.hour i) ∷ pos (t.minute i) ∷ pos (t.second i) ∷ []
+
 pub issue-decides : (a b : Card) → SameTime a b → a.issue ≢ b.issue → less_card a b ≡ ltb a.issue b.issue
-issue-decides = by-issue
+unfolding key_of
+issue-decides a b t d = number-decides a b (time_of a) (time_of b) a.issue b.issue _ _ refl refl (same-time a b t) d
 
 -- k octets from the left are the same, and then comes the one that decides
 pub octet-decides : (a b : Card) (k : ℕ) → SameTime a b → a.issue ≡ b.issue → k < length a.product → k < length b.product → take k a.product ≡ take k b.product

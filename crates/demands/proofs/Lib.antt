@@ -12,4 +12,3 @@ pub mod ShortOrLong
 pub mod Messages
 pub mod OffsetRows
 pub mod Engines
-pub mod HandLoaded

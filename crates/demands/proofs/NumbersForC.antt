@@ -26,7 +26,7 @@ use Rattle.shelf.specs.declared.Shelf.{Shelf}
 use Rattle.shelf_octets.specs.ShelfOctets.{shelf_in}
 use Rattle.filing.specs.declared.Answer.{Answer}
 use Rattle.filing.specs.declared.Answer.TheVariants.{Kept, Passed, Refused as refused_field}
-use Rattle.filing.specs.Filing.{filed_of, reload_issue, issue_from}
+use Rattle.filing.specs.Filing.{filed_of, issue_from}
 use Rattle.filing.specs.Refused.{filing_table}
 use Rattle.filing.proofs.RefusalNumbers.{filing-refuses}
 use Rattle.queue.specs.declared.QueueAnswer.{QueueAnswer}
@@ -40,9 +40,9 @@ use Rattle.values.proofs.RecordRead.{read-into-refuses}
 use Rattle.skogmund.specs.Entries.{code, code_of, coded, no_room, row_unpacked, record_told, fits, listing_told}
 use Rattle.skogmund.specs.Parts.{part_told}
 use Rattle.skogmund.specs.Messages.{spans_of, room_for, message_told}
-use Rattle.skogmund.specs.Shelves.{is_shelf, emptied, joined, kept_in, field_kept, filed_field, reloaded_field, queue_kept, filed_queue, slot_shown}
+use Rattle.skogmund.specs.Shelves.{is_shelf, emptied, joined, kept_in, field_kept, filed_field, queue_kept, filed_queue, slot_shown}
 use Rattle.skogmund.proofs.Answered.{taken-apart}
-use Rattle.demands.specs.NumbersForC.{Answers, octet_sections, room_table, message_for_c_table, slot_table, file_table, reload_table, file_queue_table}
+use Rattle.demands.specs.NumbersForC.{Answers, octet_sections, room_table, message_for_c_table, slot_table, file_table, file_queue_table}
 
 -- ---- one number, one refusal
 
@@ -127,25 +127,17 @@ keep-answers : (table : List Row) (s places : List ℕ) (after : Shelf) (ns : Li
 unfolding kept_in
 keep-answers table s places after ns e = room-answers table (is_shelf s && leb (length ns) (length places)) _ _ e
 
-keep-field-answers : (table : List Row) (s places : List ℕ) (after : Shelf) (a : Answer) → one_of (numbers_of table 0) 18 ≡ true → ((x : Refusal) → a ≡ refused_field x → Listed table x)
-    → Answers table (field_kept s places after a).answer
-unfolding field_kept
-keep-field-answers table s places after (refused_field x) e f = inr (x, refl, f x refl)
-keep-field-answers table s places after Kept e f = keep-answers table s places after (1 ∷ []) e
-keep-field-answers table s places after Passed e f = keep-answers table s places after (0 ∷ []) e
-
 pub field-answers : (s : List ℕ) (slot stored : ℕ) (s1 s3 s4 s5 s7 places : List ℕ) → Answers file_table (filed_field s slot stored s1 s3 s4 s5 s7 places).answer
-unfolding filed_field
+unfolding filed_field field_kept
 field-answers s slot stored s1 s3 s4 s5 s7 places =
     let made = filed_of (shelf_in s) slot (issue_from stored) s1 s3 s4 s5 s7 in
     either (AnswersBy file_table) (ltb 4294967296 stored) (plainly file_table 19 refl refl)
-    (keep-field-answers file_table s places made.shelf made.answer refl (λ x e. wider file_table filing_table x refl (filing-refuses (shelf_in s) slot (issue_from stored) s1 s3 s4 s5 s7 x e)))
-
-pub reload-answers : (s : List ℕ) (slot : ℕ) (s1 s3 s4 s5 s7 places : List ℕ) → Answers reload_table (reloaded_field s slot s1 s3 s4 s5 s7 places).answer
-unfolding reloaded_field
-reload-answers s slot s1 s3 s4 s5 s7 places =
-    let made = filed_of (shelf_in s) slot reload_issue s1 s3 s4 s5 s7 in
-    keep-field-answers reload_table s places made.shelf made.answer refl (λ x e. wider reload_table filing_table x refl (filing-refuses (shelf_in s) slot reload_issue s1 s3 s4 s5 s7 x e))
+    (by made.shelf made.answer (λ x e. wider file_table filing_table x refl (filing-refuses (shelf_in s) slot (issue_from stored) s1 s3 s4 s5 s7 x e)))
+  where
+    by : (after : Shelf) (a : Answer) → ((x : Refusal) → a ≡ refused_field x → Listed file_table x) → Answers file_table (field_kept s places after a).answer
+    by after (refused_field x) f = inr (x, refl, f x refl)
+    by after Kept f = keep-answers file_table s places after (1 ∷ []) refl
+    by after Passed f = keep-answers file_table s places after (0 ∷ []) refl
 
 pub queue-answers : (s q places : List ℕ) → Answers file_queue_table (filed_queue s q places).answer
 unfolding filed_queue queue_kept

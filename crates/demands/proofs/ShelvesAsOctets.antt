@@ -142,7 +142,7 @@ stored-queue s q t a = by-refusal (eqb (queue_refusal q) 0)
 
 -- ---- so octets may be stored or sent between any two calls of a history
 
-pub stored-history : (h : History) → Given h → Stored (shelf_of h)
+stored-history : (h : History) → Given h → Stored (shelf_of h)
 unfolding shelf_of Given
 stored-history start g = laws.stored-empty
 stored-history (put slot card h) g = laws.stored-put (shelf_of h) slot card (stored-history h g.1) g.0

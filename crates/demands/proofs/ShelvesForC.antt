@@ -15,7 +15,7 @@ use Rattle.shelf.specs.declared.Shelf.{Shelf}
 use Rattle.shelf.specs.Shelves.{slot_at, join_shelf}
 use Rattle.shelf_octets.specs.ShelfOctets.{shelf_in, as_octets, join_octets}
 use Rattle.shelf_octets.proofs.Laws.{empty-zeros}
-use Rattle.filing.specs.Filing.{filed_of, reload_issue, issue_from}
+use Rattle.filing.specs.Filing.{filed_of, issue_from}
 use Rattle.cutting.specs.Cuts.{cut_of}
 use Rattle.queue.specs.Queues.{record_step, queue_filed}
 use Rattle.queue.specs.Counting.{Reports}
@@ -27,10 +27,9 @@ use Rattle.queue.specs.History.{History, start, file, queue, join, shelf_of}
 use Rattle.lent.specs.Lent.{Done, done, done_both, over, with_count, if_room}
 use Rattle.lent.proofs.Answers.{room-lent}
 use Rattle.skogmund.specs.Entries.{code, no_room}
-use Rattle.skogmund.specs.Shelves.{is_shelf, emptied, joined, filed_field, reloaded_field, FieldTold, filed_queue, QueueTold, slot_numbers, slot_shown}
-use Rattle.skogmund.proofs.Answered.{no-room-refuses, field-left, reload-is-filing, queue-left}
+use Rattle.skogmund.specs.Shelves.{is_shelf, emptied, joined, filed_field, FieldTold, filed_queue, QueueTold, slot_numbers, slot_shown}
+use Rattle.skogmund.proofs.Answered.{no-room-refuses, field-left, queue-left}
 use Rattle.demands.specs.Histories.{Given, Leaves, Writes, field_of}
-use Rattle.demands.specs.HandLoaded.{at_bench}
 use Rattle.demands.proofs.ShelvesAsOctets.{issue-small, writes}
 
 -- 0 says that there was room
@@ -54,10 +53,6 @@ c-files h s slot stored s1 s3 s4 s5 s7 places s' places' l a e =
     let x = field-left s slot stored s1 s3 s4 s5 s7 places (sym (ap (λ (x : Done ℕ (List ℕ × List ℕ)). x.answer) e)) in
     writes (file slot (field_of stored s1 s3 s4 s5 s7) h) s' (a, issue-small stored x.0.0, l.given)
     (ap (λ (x : Done ℕ (List ℕ × List ℕ)). x.lent.0) e ∙ x.1.0 ∙ ap (λ (y : Shelf). as_octets (filed_of y slot (issue_from stored) s1 s3 s4 s5 s7).shelf) l.says)
-
-pub c-reloads : (h : History) (s : List ℕ) (slot : ℕ) (s1 s3 s4 s5 s7 places s' places' : List ℕ) → Leaves h s → AllOctets s1 → done_both 0 s' places' ≡ reloaded_field s slot s1 s3 s4 s5 s7 places
-    → Writes (file slot (at_bench s1 s3 s4 s5 s7) h) s'
-c-reloads h s slot s1 s3 s4 s5 s7 places s' places' l a e = c-files h s slot 1 s1 s3 s4 s5 s7 places s' places' l a (e ∙ reload-is-filing s slot s1 s3 s4 s5 s7 places)
 
 pub c-files-queue : (h : History) (s q places s' places' : List ℕ) → Leaves h s → AllOctets q → done_both 0 s' places' ≡ filed_queue s q places → Writes (queue q h) s'
 unfolding Given shelf_of
@@ -86,10 +81,6 @@ pub c-field-told : (s : List ℕ) (slot stored : ℕ) (s1 s3 s4 s5 s7 places s' 
 c-field-told s slot stored s1 s3 s4 s5 s7 places s' places' e =
     let x = field-left s slot stored s1 s3 s4 s5 s7 places (sym (ap (λ (x : Done ℕ (List ℕ × List ℕ)). x.answer) e)) in
     subst⁻¹ (λ (l : List ℕ). FieldTold (filed_of (shelf_in s) slot (issue_from stored) s1 s3 s4 s5 s7).answer places l) (ap (λ (x : Done ℕ (List ℕ × List ℕ)). x.lent.1) e) x.1.1
-
-pub c-reload-told : (s : List ℕ) (slot : ℕ) (s1 s3 s4 s5 s7 places s' places' : List ℕ) → done_both 0 s' places' ≡ reloaded_field s slot s1 s3 s4 s5 s7 places
-    → FieldTold (filed_of (shelf_in s) slot reload_issue s1 s3 s4 s5 s7).answer places places'
-c-reload-told s slot s1 s3 s4 s5 s7 places s' places' e = c-field-told s slot 1 s1 s3 s4 s5 s7 places s' places' (e ∙ reload-is-filing s slot s1 s3 s4 s5 s7 places)
 
 pub c-queue-told : (s q places s' places' : List ℕ) → done_both 0 s' places' ≡ filed_queue s q places
     → (n : Counts) × Reports (shelf_in s) (cut_of record_step q).items n × (places' ≡ over places (n.kept ∷ n.passed ∷ n.refused ∷ []))

@@ -68,7 +68,7 @@ use Rattle.report.specs.Texts.{issue_text, record_line}
 use Rattle.values.specs.Records.{section_outcome, into_row}
 use Rattle.shelf_octets.specs.ShelfOctets.{shelf_in}
 use Rattle.skogmund.specs.Entries.{code, row_unpacked, record_told}
-use Rattle.skogmund.specs.Shelves.{field_kept, filed_field, reloaded_field}
+use Rattle.skogmund.specs.Shelves.{field_kept, filed_field}
 use Rattle.demands.specs.ShortOrLong.{short_or_long}
 use Rattle.demands.proofs.Starred.{both}
 
@@ -186,8 +186,3 @@ module _ (number section place : ℕ) where
   unfolding filed_field field_kept
   file-hands-on s slot stored s1 s3 s4 s5 s7 places small there e =
       rw (le-ltb 4294967296 stored small, filing-hands-on (shelf_in s) slot (issue_from stored) s1 s3 s4 s5 s7 there e)
-
-  pub reload-hands-on : (s : List ℕ) (slot : ℕ) (s1 s3 s4 s5 s7 places : List ℕ) → slot ≤ 63 → field_outcome s1 s3 s4 s5 s7 ≡ refused_field number section place
-      → (reloaded_field s slot s1 s3 s4 s5 s7 places).answer ≡ code number section place
-  unfolding reloaded_field filed_field
-  reload-hands-on s slot s1 s3 s4 s5 s7 places = file-hands-on s slot 1 s1 s3 s4 s5 s7 places (omega arith)

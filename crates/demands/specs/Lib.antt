@@ -4,4 +4,3 @@ pub mod Histories
 pub mod NumbersForC
 pub mod Tables
 pub mod ShortOrLong
-pub mod HandLoaded

@@ -30,9 +30,5 @@ slot_table = row 0 (16 ∷ 18 ∷ []) ∷ []
 abbrev pub file_table : List Row
 file_table = row 0 (16 ∷ 18 ∷ 19 ∷ []) ∷ filed_rows
 
--- a reload is given no issue + 1, so that there is no 19
-abbrev pub reload_table : List Row
-reload_table = row 0 (16 ∷ 18 ∷ []) ∷ filed_rows
-
 abbrev pub file_queue_table : List Row
 file_queue_table = row 0 (2 ∷ 18 ∷ 19 ∷ []) ∷ []

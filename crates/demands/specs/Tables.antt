@@ -12,7 +12,7 @@ use Rattle.message.specs.Refused.{message_table}
 use Rattle.filing.specs.Refused.{filing_table}
 use Rattle.queue.specs.Refused.{record_table, queue_table}
 use Rattle.values.specs.Refused.{read_table}
-use Rattle.demands.specs.NumbersForC.{room_table, message_for_c_table, slot_table, file_table, reload_table, file_queue_table}
+use Rattle.demands.specs.NumbersForC.{room_table, message_for_c_table, slot_table, file_table, file_queue_table}
 
 -- the first three go by the section that is asked for; the table of `fitting-told` has the number that a caller names, and is not among these
 abbrev pub tables : ℕ → List (List Row)
@@ -35,7 +35,6 @@ tables asked =
     ∷ message_for_c_table
     ∷ slot_table
     ∷ file_table
-    ∷ reload_table
     ∷ file_queue_table
     ∷ []
 

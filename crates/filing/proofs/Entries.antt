@@ -10,7 +10,8 @@ use types.Logic.{Logic}
 use seplogic.Ra.Ura.{Ura}
 use prog.Memory.{Memory}
 use prog.Routine.{Routine}
-use Rattle.filing.specs.Filing.{filed_of, reload_issue, stored_issue}
+use Rattle.filing.specs.Filing.{filed_of, stored_issue}
+use Rattle.filing.specs.declared.Issue.TheVariants.{NotNamed}
 use Rattle.entry.specs.Entry.{Entry}
 use Rattle.filing.proofs as code
 
@@ -20,7 +21,7 @@ issue-from = record { takes = λ lent given. tt; ends = code.issue_from.Met.met;
 pub file-by-value : Entry code.file_by_value.Reads.Asked code.file_by_value.Reads.Learnt code.file_by_value.Statement.statement (λ given r later. r ≡ filed_of given.0 given.1.0 given.1.1.0 given.1.1.1.0.now given.1.1.1.1.0.now given.1.1.1.1.1.0.now given.1.1.1.1.1.1.0.now given.1.1.1.1.1.1.1.0.now)
 file-by-value = record { takes = λ lent given. tt; ends = code.file_by_value.Met.met; tells = λ lent given r later e. e }
 
-pub bench-reload : Entry code.bench_reload.Reads.Asked code.bench_reload.Reads.Learnt code.bench_reload.Statement.statement (λ given r later. r ≡ filed_of given.0 given.1.0 reload_issue given.1.1.0.now given.1.1.1.0.now given.1.1.1.1.0.now given.1.1.1.1.1.0.now given.1.1.1.1.1.1.0.now)
+pub bench-reload : Entry code.bench_reload.Reads.Asked code.bench_reload.Reads.Learnt code.bench_reload.Statement.statement (λ given r later. r ≡ filed_of given.0 given.1.0 NotNamed given.1.1.0.now given.1.1.1.0.now given.1.1.1.1.0.now given.1.1.1.1.1.0.now given.1.1.1.1.1.1.0.now)
 bench-reload = record { takes = λ lent given. tt; ends = code.bench_reload.Met.met; tells = λ lent given r later e. e }
 
 -- `file` lends the shelf and is proved by a walk, of which the check makes no reading: its `requires` as it stands, which asks for nothing, and its

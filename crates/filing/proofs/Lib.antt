@@ -4,4 +4,3 @@ pub mod Entries
 pub mod RefusalNumbers
 pub mod StoredIssues
 pub mod FiledExactlyWhen
-pub mod HandLoaded

@@ -24,15 +24,11 @@ use Rattle.filing.specs.declared.Filed.{Filed}
 
 -- the issue that a caller gets who names none
 abbrev pub default_issue : ℕ
-default_issue = 4294967295
+default_issue = 0
 
 abbrev pub issue_of : Issue → ℕ
 issue_of NotNamed = default_issue
 issue_of (Named n) = n
-
--- the issue that the bench reload names itself, when it files a kept field again
-abbrev pub reload_issue : Issue
-reload_issue = Named 0
 
 -- queues and callers store the issue + 1, and 0 where none is named
 abbrev pub issue_from : ℕ → Issue

@@ -1,7 +1,7 @@
 // Filing: a field is read, and its card put to a slot of the shelf.
 ghost use Rattle.std.specs.Prelude.{◌≡◌};
 ghost use Rattle.identification.specs.Section1.{values_in};
-ghost use Rattle.filing.specs.Filing.{issue_of, stored_issue, card_of, foreign_calendar, after_put, filed_by, filed_of, reload_issue, refused_filing};
+ghost use Rattle.filing.specs.Filing.{issue_of, stored_issue, card_of, foreign_calendar, after_put, filed_by, filed_of, refused_filing};
 
 use card::Card;
 use identification::{CalendarCode, Identification};
@@ -22,8 +22,8 @@ pub enum StoredIssue {
     TooLarge,
 }
 
-// What a caller gets who names no issue: the greatest there is, so that a field that is loaded by hand does not lose every tie to dispatch.
-pub const DEFAULT_ISSUE: u32 = 4294967295;
+// What a caller gets who names no issue.
+pub const DEFAULT_ISSUE: u32 = 0;
 
 #[derive(Drop)]
 pub enum Answer {
@@ -90,8 +90,7 @@ pub fn file<'s, 'a>(
     done.answer
 }
 
-// The bench reload refiles a kept field after a repair. It names issue 0 itself, so that it does not displace a higher issue of the same
-// reference time.
+// The bench reload refiles a kept field after a repair, and names no issue.
 pub fn bench_reload<'a>(
     shelf: Shelf,
     slot: usize,
@@ -101,12 +100,12 @@ pub fn bench_reload<'a>(
     section5: &'a [u8],
     section7: &'a [u8],
 ) -> Filed
-    ensures { result ≡ filed_of shelf slot reload_issue section1.now section3.now section4.now section5.now section7.now }
+    ensures { result ≡ filed_of shelf slot Issue.NotNamed section1.now section3.now section4.now section5.now section7.now }
 {
     file_by_value(
         shelf,
         slot,
-        Issue::Named(0),
+        Issue::NotNamed,
         section1,
         section3,
         section4,

@@ -21,7 +21,6 @@ use Rattle.cutting.proofs.Taken.{taken}
 use Rattle.cutting.proofs.Strung.{Spells, each_item, cut-strung, strung-cut}
 use Rattle.shelf.specs.declared.Shelf.{Shelf}
 use Rattle.filing.specs.Filing.{issue_from}
-use Rattle.filing.proofs.HandLoaded.{stored-0}
 use Rattle.filing.specs.declared.Issue.{Issue}
 use Rattle.filing.specs.declared.Issue.TheVariants.{NotNamed, Named}
 use Rattle.queue.specs.Records.{bodied, record_of}
@@ -34,7 +33,7 @@ use Rattle.queue.proofs.Cuts.{Stands, stands, by-record, records-advance, record
 -- ---- an issue is stored as issue + 1, or 0
 
 issue-back : (i : Issue) → issue_from (stored_of i) ≡ i
-issue-back NotNamed = stored-0
+issue-back NotNamed = refl
 issue-back (Named n) = rw (ne_eqb (n + 1) 0 (λ e. omega arith)) (ap Named (omega arith))
 
 stored_back : (n : ℕ) → stored_of (issue_from n) ≡ n

@@ -12,7 +12,7 @@ use lib.Dec.{ltb}
 use borrow.Author.Tests.{lt-ltb, ltb-true}
 use lib.Seq.{get_or-set_same, get_or-set_other, set-get_or, set_out}
 use Rattle.card.specs.declared.Card.{Card}
-use Rattle.card.proofs.Strict.{Join, asym, less-apart, max-left}
+use Rattle.card.proofs.Strict.{Join, less-apart, max-left, max-right}
 use Rattle.shelf.specs.declared.Slot.{Slot}
 use Rattle.shelf.specs.declared.Shelf.{Shelf}
 use Rattle.shelf.specs.Shelves.{less_slot, greater_slot, blank, holding, slot_at, empty_shelf, put_shelf, put_of, join_shelf}
@@ -103,14 +103,10 @@ file-is-join (e ∷ q) s t =
 
 -- ---- a card that was put, on any shelf of 64 slots
 
--- the slot holds it where what was there is not greater
-pub put_holds : (s : Shelf) (n : ℕ) (c : Card) → length s.slots ≡ 64 → n < 64 → less_slot (holding c) (slot_at s n) ≡ false → slot_at (put_shelf s n c) n ≡ holding c
-unfolding greater_slot
-put_holds s n c long h k = put_same s n c long h ∙ slot-join.comm _ _ ∙ max-left slot-strict _ _ k
-
--- so where it is greater than that
+-- the slot holds it where it is greater than what was there
 pub put-raises : (s : Shelf) (n : ℕ) (c : Card) → length s.slots ≡ 64 → n < 64 → less_slot (slot_at s n) (holding c) ≡ true → slot_at (put_shelf s n c) n ≡ holding c
-put-raises s n c long h k = put_holds s n c long h (asym slot-strict _ _ k)
+unfolding greater_slot
+put-raises s n c long h k = put_same s n c long h ∙ max-right slot-strict _ _ k
 
 -- and nothing changes where it is not
 pub put-stays : (s : Shelf) (n : ℕ) (c : Card) → less_slot (slot_at s n) (holding c) ≡ false → put_shelf s n c ≡ s

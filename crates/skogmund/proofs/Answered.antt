@@ -26,7 +26,6 @@ use Rattle.shelf.specs.Shelves.{slot_at, put_of}
 use Rattle.shelf_octets.specs.ShelfOctets.{shelf_in, as_octets}
 use Rattle.filing.specs.Filing.{Filing, refused_filing, accepted, filing_of, kept_if, filed_by, filed_of, issue_from}
 use Rattle.filing.specs.declared.Filed.{Filed}
-use Rattle.filing.specs.Accepted.{FollowsFiling}
 use Rattle.filing.specs.Refused.{filing_table}
 use Rattle.filing.proofs.FiledExactlyWhen.{filed-exactly-when as exactly-filed}
 use Rattle.filing.proofs.RefusalNumbers.{filing-refuses}
@@ -50,7 +49,7 @@ use Rattle.skogmund.specs.Entries.{code, code_of, coded, no_room, row_unpacked, 
 use Rattle.skogmund.specs.Parts.{part_told}
 use Rattle.skogmund.specs.Messages.{field_spans, spans_of, room_for, message_told}
 use Rattle.skogmund.proofs.Spans.{told_at, told-past}
-use Rattle.skogmund.specs.Shelves.{is_shelf, emptied, joined, kept_in, Room, field_kept, filed_field, reloaded_field, Files, FieldTold, queue_kept, filed_queue, QueueTold, slot_numbers, slot_shown}
+use Rattle.skogmund.specs.Shelves.{is_shelf, emptied, joined, kept_in, Room, field_kept, filed_field, Files, FieldTold, queue_kept, filed_queue, QueueTold, slot_numbers, slot_shown}
 
 -- ---- which refusal it is
 
@@ -224,17 +223,6 @@ module _ (s : List ℕ) (slot stored : ℕ) (s1 s3 s4 s5 s7 places : List ℕ) w
         ∙ (kept-exactly (put_of (shelf_in s) slot card.0).changed (put_of (shelf_in s) slot card.0).shelf).1 f.2
         ),
   )
-
--- a reload is a filing with issue 0, which is stored as 1
-pub reload-is-filing : (s : List ℕ) (slot : ℕ) (s1 s3 s4 s5 s7 places : List ℕ) → reloaded_field s slot s1 s3 s4 s5 s7 places ≡ filed_field s slot 1 s1 s3 s4 s5 s7 places
-unfolding reloaded_field filed_field
-reload-is-filing s slot s1 s3 s4 s5 s7 places = refl
-
-pub reloaded-exactly-when : (s : List ℕ) (slot : ℕ) (s1 s3 s4 s5 s7 places : List ℕ) → ((reloaded_field s slot s1 s3 s4 s5 s7 places).answer ≡ 0) ↔ (FollowsFiling slot s1 s3 s4 s5 s7 × Room s places 1)
-unfolding reloaded_field filed_field
-reloaded-exactly-when s slot s1 s3 s4 s5 s7 places =
-    let exactly = filed-exactly-when s slot 1 s1 s3 s4 s5 s7 places in
-    ((λ e. let f = exactly.0 e in (f.1, f.2)), (λ f. exactly.1 (omega arith, f.0, f.1)))
 
 abbrev queued : List ℕ → List ℕ → Bool → QueueFiled
 queued s q t = cond t (accepted_queue (records_filed (from_start (shelf_in s)) (cut_of record_step q).items)) (refused_queue (shelf_in s) (queue_refusal q))

@@ -3,7 +3,7 @@
 use mathlib.Core.Path.{◌≡◌}
 use Rattle.lent.specs.Lent.{done, done_both}
 use Rattle.skogmund.specs.Entries.{record_told, row_unpacked, listing_told}
-use Rattle.skogmund.specs.Shelves.{emptied, joined, filed_field, reloaded_field, filed_queue, slot_shown}
+use Rattle.skogmund.specs.Shelves.{emptied, joined, filed_field, filed_queue, slot_shown}
 use Rattle.skogmund.specs.Parts.{part_told}
 use Rattle.skogmund.specs.Messages.{message_told}
 use Rattle.entry.specs.Entry.{Entry}
@@ -32,9 +32,6 @@ skogmund-join = record { takes = λ lent given. tt; ends = code.shelves.skogmund
 
 pub skogmund-file : Entry code.shelves.skogmund_file.Reads.Asked code.shelves.skogmund_file.Reads.Learnt code.shelves.skogmund_file.Statement.statement (λ given r later. done_both r later.0.now later.1.1.1.1.1.1.1.1.0.now ≡ filed_field given.0.now given.1.0 given.1.1.0 given.1.1.1.0.now given.1.1.1.1.0.now given.1.1.1.1.1.0.now given.1.1.1.1.1.1.0.now given.1.1.1.1.1.1.1.0.now given.1.1.1.1.1.1.1.1.0.now)
 skogmund-file = record { takes = λ lent given. tt; ends = code.shelves.skogmund_file.Met.met; tells = λ lent given r later e. e }
-
-pub skogmund-reload : Entry code.shelves.skogmund_reload.Reads.Asked code.shelves.skogmund_reload.Reads.Learnt code.shelves.skogmund_reload.Statement.statement (λ given r later. done_both r later.0.now later.1.1.1.1.1.1.1.0.now ≡ reloaded_field given.0.now given.1.0 given.1.1.0.now given.1.1.1.0.now given.1.1.1.1.0.now given.1.1.1.1.1.0.now given.1.1.1.1.1.1.0.now given.1.1.1.1.1.1.1.0.now)
-skogmund-reload = record { takes = λ lent given. tt; ends = code.shelves.skogmund_reload.Met.met; tells = λ lent given r later e. e }
 
 pub skogmund-file-queue : Entry code.shelves.skogmund_file_queue.Reads.Asked code.shelves.skogmund_file_queue.Reads.Learnt code.shelves.skogmund_file_queue.Statement.statement (λ given r later. done_both r later.0.now later.1.1.0.now ≡ filed_queue given.0.now given.1.0.now given.1.1.0.now)
 skogmund-file-queue = record { takes = λ lent given. tt; ends = code.shelves.skogmund_file_queue.Met.met; tells = λ lent given r later e. e }

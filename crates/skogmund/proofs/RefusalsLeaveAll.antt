@@ -28,7 +28,7 @@ use Rattle.values.proofs.RecordRead.{row_stays}
 use Rattle.skogmund.specs.Entries.{code_of, coded, no_room, row_unpacked, record_told, fits, listing_told}
 use Rattle.skogmund.specs.Parts.{part_told}
 use Rattle.skogmund.specs.Messages.{room_for, message_told}
-use Rattle.skogmund.specs.Shelves.{is_shelf, emptied, joined, kept_in, field_kept, filed_field, reloaded_field, queue_kept, filed_queue, slot_shown}
+use Rattle.skogmund.specs.Shelves.{is_shelf, emptied, joined, kept_in, field_kept, filed_field, queue_kept, filed_queue, slot_shown}
 
 -- ---- sections, listings and messages
 
@@ -85,10 +85,6 @@ field-leaves s slot stored s1 s3 s4 s5 s7 places =
     by after (refused_field x) h = refl
     by after Kept h = keep-leaves s places after (1 ∷ []) h
     by after Passed h = keep-leaves s places after (0 ∷ []) h
-
-pub reload-leaves : (s : List ℕ) (slot : ℕ) (s1 s3 s4 s5 s7 places : List ℕ) → Untouched 0 (s, places) (reloaded_field s slot s1 s3 s4 s5 s7 places)
-unfolding reloaded_field filed_field
-reload-leaves s slot s1 s3 s4 s5 s7 places = field-leaves s slot 1 s1 s3 s4 s5 s7 places
 
 pub queue-leaves : (s q places : List ℕ) → Untouched 0 (s, places) (filed_queue s q places)
 unfolding filed_queue queue_kept

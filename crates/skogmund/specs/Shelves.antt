@@ -10,7 +10,7 @@ use Rattle.shelf.specs.Shelves.{slot_at}
 use Rattle.shelf_octets.specs.ShelfOctets.{shelf_in, as_octets, join_octets}
 use Rattle.filing.specs.declared.Answer.{Answer}
 use Rattle.filing.specs.declared.Answer.TheVariants.{Kept, Passed, Refused as refused_field}
-use Rattle.filing.specs.Filing.{filed_of, reload_issue, issue_from}
+use Rattle.filing.specs.Filing.{filed_of, issue_from}
 use Rattle.filing.specs.Accepted.{FollowsFiling}
 use Rattle.queue.specs.declared.QueueAnswer.{QueueAnswer}
 use Rattle.queue.specs.declared.QueueAnswer.TheVariants.{Filed as filed_all, Refused as refused_all}
@@ -48,13 +48,6 @@ filed_field s slot stored s1 s3 s4 s5 s7 places =
     (field_kept s places
     (filed_of (shelf_in s) slot (issue_from stored) s1 s3 s4 s5 s7).shelf
     (filed_of (shelf_in s) slot (issue_from stored) s1 s3 s4 s5 s7).answer)
-
--- a reload is given no issue, so that 19 is not among its refusals
-unfoldable pub reloaded_field : List ℕ → ℕ → List ℕ → List ℕ → List ℕ → List ℕ → List ℕ → List ℕ → Done ℕ (List ℕ × List ℕ)
-reloaded_field s slot s1 s3 s4 s5 s7 places =
-    field_kept s places
-    (filed_of (shelf_in s) slot reload_issue s1 s3 s4 s5 s7).shelf
-    (filed_of (shelf_in s) slot reload_issue s1 s3 s4 s5 s7).answer
 
 -- a queue is refused, or its three counts are kept with the shelf
 unfoldable pub queue_kept : List ℕ → List ℕ → Shelf → QueueAnswer → Done ℕ (List ℕ × List ℕ)

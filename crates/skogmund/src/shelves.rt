@@ -2,12 +2,10 @@
 ghost use Rattle.std.specs.Prelude.{◌≡◌, map, ◌≤◌, pos, length};
 ghost use Rattle.std.proofs.lemmas.List.Edits.{sets};
 ghost use Rattle.octets.specs.Octets.{part};
-ghost use Rattle.layout.specs.Refusals.{last_place};
 ghost use Rattle.lent.specs.Lent.{done, done_both, with_count};
-ghost use Rattle.skogmund.specs.Shelves.{emptied, joined, kept_in, field_kept, filed_field, reloaded_field, filed_queue, slot_numbers, slot_shown};
+ghost use Rattle.skogmund.specs.Shelves.{emptied, joined, kept_in, filed_field, filed_queue, slot_numbers, slot_shown};
 
-use filing::{Answer, Filed, StoredIssue};
-use layout::Refusal;
+use filing::{Answer, StoredIssue};
 use queue::QueueAnswer;
 use shelf::{Shelf, Slot};
 
@@ -76,40 +74,6 @@ pub extern "C" fn skogmund_file<'s, 'a, 'k>(
         section5,
         section7,
     );
-    keep_field(shelf, kept, done)
-}
-
-// Files a kept field again after a repair, with issue 0, so that it does not displace a higher issue of the same reference time.
-#[unsafe(no_mangle)]
-pub extern "C" fn skogmund_reload<'s, 'a, 'k>(
-    shelf: &'s mut [u8],
-    slot: u64,
-    section1: &'a [u8],
-    section3: &'a [u8],
-    section4: &'a [u8],
-    section5: &'a [u8],
-    section7: &'a [u8],
-    kept: &'k mut [u64],
-) -> u64
-    ensures { done_both result shelf.new kept.new ≡ reloaded_field shelf.old slot section1.now section3.now section4.now section5.now section7.now kept.old }
-{
-    let done = filing::bench_reload(
-        shelf_octets::read(shelf),
-        slot as usize,
-        section1,
-        section3,
-        section4,
-        section5,
-        section7,
-    );
-    keep_field(shelf, kept, done)
-}
-
-// What filing a field made: its refusal, or the shelf and whether the slot changed. No refusal's place is above the last.
-fn keep_field(shelf: &mut [u8], kept: &mut [u64], done: Filed) -> u64
-    requires { (x : Refusal) → done.answer ≡ Answer.Refused x → x.place ≤ last_place }
-    ensures { done_both result shelf.new kept.new ≡ field_kept shelf.old kept.old done.shelf done.answer }
-{
     let after = done.shelf;
     let answer = done.answer;
     match answer {

@@ -62,23 +62,6 @@ pub mod raw {
             kept: *mut u64,
             one: usize,
         ) -> u64;
-        pub fn skogmund_reload(
-            shelf: *mut u8,
-            octets: usize,
-            slot: u64,
-            s1: *const u8,
-            n1: usize,
-            s3: *const u8,
-            n3: usize,
-            s4: *const u8,
-            n4: usize,
-            s5: *const u8,
-            n5: usize,
-            s7: *const u8,
-            n7: usize,
-            kept: *mut u64,
-            one: usize,
-        ) -> u64;
         pub fn skogmund_file_queue(
             shelf: *mut u8,
             octets: usize,
@@ -233,34 +216,7 @@ pub fn empty(shelf: &mut [u8]) -> Answer {
     Answer::of(unsafe { raw::skogmund_empty(lent_to_write(shelf), shelf.len()) })
 }
 
-/// A call of an entry that takes a field to a slot: the slot, and what else stands before the sections, are its `numbers`.
-macro_rules! take_to_slot {
-    ($entry:ident, $shelf:ident, [$($numbers:ident),+], $sections:ident, $kept:ident) => {{
-        let [one, three, four, five, seven] = $sections;
-        // SAFETY: as above.
-        Answer::of(unsafe {
-            raw::$entry(
-                lent_to_write($shelf),
-                $shelf.len(),
-                $($numbers,)+
-                lent(one),
-                one.len(),
-                lent(three),
-                three.len(),
-                lent(four),
-                four.len(),
-                lent(five),
-                five.len(),
-                lent(seven),
-                seven.len(),
-                lent_to_write($kept),
-                $kept.len(),
-            )
-        })
-    }};
-}
-
-/// Files a field; 1 into the first place of `kept` where the slot changed, else 0. `issue_plus_1` is 0 where no issue is named.
+/// Files a field; 1 into the first place of `kept` where the slot changed, else 0.
 pub fn file(
     shelf: &mut [u8],
     slot: u64,
@@ -268,12 +224,28 @@ pub fn file(
     sections: [&[u8]; 5],
     kept: &mut [u64],
 ) -> Answer {
-    take_to_slot!(skogmund_file, shelf, [slot, issue_plus_1], sections, kept)
-}
-
-/// Files a kept field again after a repair, with issue 0; `kept` as with `file`.
-pub fn reload(shelf: &mut [u8], slot: u64, sections: [&[u8]; 5], kept: &mut [u64]) -> Answer {
-    take_to_slot!(skogmund_reload, shelf, [slot], sections, kept)
+    let [one, three, four, five, seven] = sections;
+    // SAFETY: as above.
+    Answer::of(unsafe {
+        raw::skogmund_file(
+            lent_to_write(shelf),
+            shelf.len(),
+            slot,
+            issue_plus_1,
+            lent(one),
+            one.len(),
+            lent(three),
+            three.len(),
+            lent(four),
+            four.len(),
+            lent(five),
+            five.len(),
+            lent(seven),
+            seven.len(),
+            lent_to_write(kept),
+            kept.len(),
+        )
+    })
 }
 
 /// Files a queue; its records kept, passed and refused, into the first three places of `counts`.

@@ -1,5 +1,5 @@
 //! What is generated undamaged is accepted by the reference, so that damage alone makes refusals.
-use skogmund_tests::generate::filings::{By, Stock};
+use skogmund_tests::generate::filings::Stock;
 use skogmund_tests::generate::messages::{framed, message, Whole};
 use skogmund_tests::generate::queues::{queue, record, spelled};
 use skogmund_tests::generate::sections::{self, Size};
@@ -124,18 +124,9 @@ fn fields_of_one_stock_compete() {
         let stock = Stock::new(rng);
         let mut shelf = Shelf::empty();
         for _ in 0..10 {
-            let filing = match rng.below(3) {
-                0 => stock.reload(rng),
-                _ => stock.filing(rng),
-            };
-            let (slot, sections) = (filing.slot, filing.sections());
-            let filed = match filing.by {
-                By::Filing { issue_plus_1 } => {
-                    shelf.file(slot, named_issue(issue_plus_1), sections)
-                }
-                By::Reload => shelf.reload(slot, sections),
-            };
-            match filed {
+            let filing = stock.filing(rng);
+            let issue = named_issue(filing.issue_plus_1);
+            match shelf.file(filing.slot, issue, filing.sections()) {
                 Ok(Filed::Kept) => times[0] += 1,
                 Ok(Filed::Passed) => times[1] += 1,
                 Err(_) => times[2] += 1,

@@ -41,36 +41,17 @@ fn field_on(day: u8, hour: u8) -> [Vec<u8>; 5] {
     field_of(one)
 }
 
-/// A call that takes a field to a slot.
-type Takes<'a> = &'a dyn Fn(&mut [u8], u64, [&[u8]; 5], &mut [u64]) -> Answer;
-
-/// Filing with issue 0 named, and the reload, which names it itself.
-const BOTH: [Takes; 2] = [
-    &|shelf, slot, sections, kept| entries::file(shelf, slot, 1, sections, kept),
-    &entries::reload,
-];
-
 /// The answer and `kept`; a refusal may change nothing.
-fn taken(shelf: &mut [u8], slot: u64, field: &[Vec<u8>; 5], takes: Takes) -> (Answer, u64) {
+fn file(shelf: &mut [u8], slot: u64, issue_plus_1: u64, field: &[Vec<u8>; 5]) -> (Answer, u64) {
     let before = shelf.to_vec();
     let mut kept = [9, 9];
     let sections = field.each_ref().map(|section| &section[..]);
-    let answer = takes(shelf, slot, sections, &mut kept);
+    let answer = entries::file(shelf, slot, issue_plus_1, sections, &mut kept);
     assert_eq!(kept[1], 9);
     if answer != Answer::Done {
         assert_eq!((&before[..], kept[0]), (&*shelf, 9));
     }
     (answer, kept[0])
-}
-
-fn file(shelf: &mut [u8], slot: u64, issue_plus_1: u64, field: &[Vec<u8>; 5]) -> (Answer, u64) {
-    taken(shelf, slot, field, &|shelf, slot, sections, kept| {
-        entries::file(shelf, slot, issue_plus_1, sections, kept)
-    })
-}
-
-fn reload(shelf: &mut [u8], slot: u64, field: &[Vec<u8>; 5]) -> (Answer, u64) {
-    taken(shelf, slot, field, &entries::reload)
 }
 
 const KEPT: (Answer, u64) = (Answer::Done, 1);
@@ -87,20 +68,18 @@ fn held(shelf: &[u8], slot: u64) -> Vec<i64> {
 
 #[test]
 fn slot_63_is_filed_and_64_is_16() {
-    for takes in BOTH {
-        let mut shelf = empty_shelf();
-        assert_eq!(shelf, [0; SHELF_OCTETS]);
-        let field = field_on(7, 0);
-        let mut to = |slot| taken(&mut shelf, slot, &field, takes);
-        assert_eq!(to(64), (refused(16, 0), 9));
-        assert_eq!((to(63), to(63)), (KEPT, PASSED));
-        assert_eq!(shelf[..63 * SLOT_OCTETS], [0; 63 * SLOT_OCTETS]);
-        let octets = &shelf[63 * SLOT_OCTETS..];
-        // 2024 + 2^31 is 80 00 07 E8; then month to second and issue 0.
-        assert_eq!(octets[..5], [1, 0x80, 0, 7, 0xe8]);
-        assert_eq!(octets[5..14], [3, 7, 0, 0, 0, 0, 0, 0, 0]);
-        assert_eq!(octets[14..], field[2][7..34]);
-    }
+    let mut shelf = empty_shelf();
+    assert_eq!(shelf, [0; SHELF_OCTETS]);
+    let field = field_on(7, 0);
+    assert_eq!(file(&mut shelf, 64, 1, &field), (refused(16, 0), 9));
+    assert_eq!(file(&mut shelf, 63, 1, &field), KEPT);
+    assert_eq!(file(&mut shelf, 63, NO_ISSUE, &field), PASSED);
+    assert_eq!(shelf[..63 * SLOT_OCTETS], [0; 63 * SLOT_OCTETS]);
+    let octets = &shelf[63 * SLOT_OCTETS..];
+    // 2024 + 2^31 is 80 00 07 E8; then month to second and issue 0.
+    assert_eq!(octets[..5], [1, 0x80, 0, 7, 0xe8]);
+    assert_eq!(octets[5..14], [3, 7, 0, 0, 0, 0, 0, 0, 0]);
+    assert_eq!(octets[14..], field[2][7..34]);
 }
 
 #[test]
@@ -129,72 +108,13 @@ fn a_real_year_below_0_is_held() {
     assert_eq!(held(&shelf, 0)[0], 2_024);
 }
 
-/// The place of the issue among a slot's values.
-const ISSUE: usize = 6;
-
 #[test]
-fn none_named_is_the_greatest_issue() {
+fn issues_from_none_to_the_greatest() {
     let mut shelf = empty_shelf();
     let field = field_on(7, 0);
     assert_eq!(file(&mut shelf, 1, NO_ISSUE, &field), KEPT);
-    assert_eq!(held(&shelf, 1)[ISSUE], 4_294_967_295);
-    assert_eq!(file(&mut shelf, 1, GREATEST, &field), PASSED);
-    for (issue_plus_1, by_hand) in [
-        (1, KEPT),
-        (41, KEPT),
-        (GREATEST - 1, KEPT),
-        (GREATEST, PASSED),
-    ] {
-        let mut shelf = empty_shelf();
-        assert_eq!(file(&mut shelf, 1, issue_plus_1, &field), KEPT);
-        assert_eq!(held(&shelf, 1)[ISSUE], issue_plus_1 as i64 - 1);
-        assert_eq!(file(&mut shelf, 1, NO_ISSUE, &field), by_hand);
-        assert_eq!(held(&shelf, 1)[ISSUE], 4_294_967_295);
-    }
-    // A later reference time beats every issue number.
-    assert_eq!(file(&mut shelf, 1, 1, &field_on(7, 1)), KEPT);
-    assert_eq!(file(&mut shelf, 1, NO_ISSUE, &field), PASSED);
-}
-
-/// Of the same time as the field on the 7th, at 00:00:00, with another octet 10 of section 4.
-fn of_higher_octets() -> [Vec<u8>; 5] {
-    let mut field = field_on(7, 0);
-    field[2][9] = 200;
-    field
-}
-
-#[test]
-fn a_reload_does_not_displace_a_higher_issue() {
-    let mut shelf = empty_shelf();
-    let (field, other) = (field_on(7, 0), of_higher_octets());
-    assert_eq!(file(&mut shelf, 1, 41, &field), KEPT);
-    for reloaded in [&field, &other] {
-        assert_eq!(reload(&mut shelf, 1, reloaded), PASSED);
-        assert_eq!(held(&shelf, 1)[ISSUE], 40);
-    }
-    assert_eq!(file(&mut shelf, 1, NO_ISSUE, &field), KEPT);
-    assert_eq!(reload(&mut shelf, 1, &other), PASSED);
-    assert_eq!(held(&shelf, 1)[ISSUE], 4_294_967_295);
-    assert_eq!(reload(&mut shelf, 1, &field_on(7, 1)), KEPT);
-    assert_eq!(held(&shelf, 1)[ISSUE], 0);
-}
-
-#[test]
-fn a_reload_has_issue_0() {
-    let mut shelf = empty_shelf();
-    let (field, other) = (field_on(7, 0), of_higher_octets());
-    assert_eq!(reload(&mut shelf, 1, &field), KEPT);
-    assert_eq!(held(&shelf, 1)[ISSUE], 0);
-    assert_eq!(file(&mut shelf, 1, 1, &field), PASSED);
-    assert_eq!(reload(&mut shelf, 1, &other), KEPT);
-    assert_eq!(reload(&mut shelf, 1, &field), PASSED);
-    assert_eq!(file(&mut shelf, 1, 2, &field), KEPT);
-}
-
-#[test]
-fn an_issue_plus_1_above_the_greatest_is_19() {
-    let mut shelf = empty_shelf();
-    let field = field_on(7, 0);
+    assert_eq!(file(&mut shelf, 1, GREATEST, &field), KEPT);
+    assert_eq!(held(&shelf, 1)[6], 4_294_967_295);
     // 19 comes before 16.
     let above = GREATEST + 1;
     assert_eq!(file(&mut shelf, 64, above, &field), (refused(19, 0), 9));
@@ -204,34 +124,28 @@ fn an_issue_plus_1_above_the_greatest_is_19() {
 
 #[test]
 fn fields_that_are_refused() {
+    let mut shelf = empty_shelf();
+    let mut answer = |field| file(&mut shelf, 0, 1, &field).0;
     let julian = section1(YEAR_2024, 3, &[0, 0, 1]);
+    assert_eq!(answer(field_of(julian.clone())), refused(17, 1));
     let [one, three, four, five, seven] = field_on(7, 0);
     let other_points = [&one, &three, &four, &section5(13, 9), &seven];
+    assert_eq!(answer(other_points.map(Vec::clone)), refused(14, 5));
     let too_long = [&julian, &three, &four, &five, &section7(&[0; 17])];
-    for takes in BOTH {
-        let mut shelf = empty_shelf();
-        let mut answer = |field| taken(&mut shelf, 0, &field, takes).0;
-        assert_eq!(answer(field_of(julian.clone())), refused(17, 1));
-        assert_eq!(answer(other_points.map(Vec::clone)), refused(14, 5));
-        assert_eq!(answer(too_long.map(Vec::clone)), refused(15, 7));
-    }
+    assert_eq!(answer(too_long.map(Vec::clone)), refused(15, 7));
 }
 
 #[test]
 fn too_few_places_come_after_the_field() {
     let field = field_on(7, 0);
+    let mut short = vec![9; SHELF_OCTETS - 1];
+    assert_eq!(file(&mut short, 0, 1, &field), (TOO_FEW_PLACES, 9));
     let julian = field_of(section1(YEAR_2024, 3, &[0, 0, 1]));
-    for takes in BOTH {
-        let mut short = vec![9; SHELF_OCTETS - 1];
-        let mut answer = |slot, field| taken(&mut short, slot, field, takes);
-        assert_eq!(answer(0, &field), (TOO_FEW_PLACES, 9));
-        assert_eq!(answer(0, &julian), (refused(17, 1), 9));
-        assert_eq!(answer(64, &julian), (refused(16, 0), 9));
-        let mut shelf = empty_shelf();
-        let sections = field.each_ref().map(|section| &section[..]);
-        let no_place = takes(&mut shelf, 0, sections, &mut []);
-        assert_eq!((no_place, shelf), (TOO_FEW_PLACES, empty_shelf()));
-    }
+    assert_eq!(file(&mut short, 0, 1, &julian), (refused(17, 1), 9));
+    let mut shelf = empty_shelf();
+    let sections = field.each_ref().map(|section| &section[..]);
+    let no_place = entries::file(&mut shelf, 0, 1, sections, &mut []);
+    assert_eq!((no_place, shelf), (TOO_FEW_PLACES, empty_shelf()));
 }
 
 fn record(slot: u64, issue_plus_1: u64, body: &[u8]) -> Vec<u8> {
@@ -264,19 +178,6 @@ fn the_queue_of_the_listing() {
     let before = shelf.clone();
     assert_eq!(file_queue(&mut shelf, &queue), (Answer::Done, [0, 2, 1, 9]));
     assert_eq!(shelf, before);
-}
-
-#[test]
-fn a_record_without_an_issue_has_the_greatest() {
-    let body = field_on(7, 0).concat();
-    for (issue_plus_1, counts) in [(1, [2, 0]), (41, [2, 0]), (GREATEST, [1, 1])] {
-        let queue = [issue_plus_1, NO_ISSUE].map(|stored| record(7, stored, &body));
-        let mut shelf = empty_shelf();
-        let [kept, passed] = counts;
-        let answer = file_queue(&mut shelf, &queue.concat());
-        assert_eq!(answer, (Answer::Done, [kept, passed, 0, 9]));
-        assert_eq!(held(&shelf, 7)[ISSUE], 4_294_967_295);
-    }
 }
 
 #[test]
@@ -332,16 +233,12 @@ fn any_octets_are_a_shelf() {
 
 #[test]
 fn shelves_of_another_length_are_18_and_stay() {
-    let (whole, field) = (empty_shelf(), field_on(7, 0));
+    let whole = empty_shelf();
     for octets in [0, 1, SHELF_OCTETS - 1, SHELF_OCTETS + 1] {
         let mut shelf = vec![9; octets];
         assert_eq!(entries::empty(&mut shelf), TOO_FEW_PLACES);
         assert_eq!(entries::join(&mut shelf, &whole), TOO_FEW_PLACES);
         assert_eq!(file_queue(&mut shelf, &[]), (TOO_FEW_PLACES, [9; 4]));
-        for takes in BOTH {
-            let answer = taken(&mut shelf, 0, &field, takes);
-            assert_eq!(answer, (TOO_FEW_PLACES, 9));
-        }
         let mut values = [9; VALUES];
         assert_eq!(entries::slot(&shelf, 0, &mut values), TOO_FEW_PLACES);
         assert_eq!(entries::slot(&shelf, 64, &mut values), refused(16, 0));
@@ -378,10 +275,6 @@ fn slices_of_nothing() {
             let code = raw::skogmund_file(
                 shelf, 0, 0, 0, nothing, 0, nothing, 0, nothing, 0, nothing, 0, nothing, 0, place,
                 0,
-            );
-            assert_eq!(code, 1 << 40 | 1 << 32);
-            let code = raw::skogmund_reload(
-                shelf, 0, 0, nothing, 0, nothing, 0, nothing, 0, nothing, 0, nothing, 0, place, 0,
             );
             assert_eq!(code, 1 << 40 | 1 << 32);
         }

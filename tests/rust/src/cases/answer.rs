@@ -145,8 +145,9 @@ impl Shelves {
             Asked::Filing(slot, issue, sections) => {
                 fate(&self.here.file(*slot, *issue, borrowed(sections)))
             }
+            // It names no issue.
             Asked::BenchReload(slot, sections) => {
-                fate(&self.here.reload(*slot, borrowed(sections)))
+                fate(&self.here.file(*slot, None, borrowed(sections)))
             }
             Asked::Empty => {
                 self.here = Shelf::empty();

@@ -9,7 +9,7 @@ pub enum Asked {
     Unpacking(Vec<u8>, Vec<u8>, usize),
     /// A field to a slot; no issue is named where it is `None`.
     Filing(u64, Option<u32>, [Vec<u8>; 5]),
-    /// A field to a slot after a repair; the program names the issue.
+    /// A field to a slot after a repair.
     BenchReload(u64, [Vec<u8>; 5]),
     /// The shelf emptied.
     Empty,
@@ -39,10 +39,9 @@ fn run(octets: &[u8]) -> String {
     format!("{} {}", octets.len(), hex(&octets[..written]))
 }
 
-/// What is to be done with a field, and its sections.
-fn field(order: String, sections: &[Vec<u8>; 5]) -> String {
+fn field(order: &str, slot: u64, issue_plus_1: u64, sections: &[Vec<u8>; 5]) -> String {
     let runs: Vec<String> = sections.iter().map(|section| run(section)).collect();
-    format!("{order} / {}", runs.join(" / "))
+    format!("{order} {slot} {issue_plus_1} / {}", runs.join(" / "))
 }
 
 impl Asked {
@@ -54,9 +53,9 @@ impl Asked {
             }
             Asked::Filing(slot, issue, sections) => {
                 let issue_plus_1 = issue.map_or(0, |issue| u64::from(issue) + 1);
-                field(format!("f {slot} {issue_plus_1}"), sections)
+                field("f", *slot, issue_plus_1, sections)
             }
-            Asked::BenchReload(slot, sections) => field(format!("b {slot}"), sections),
+            Asked::BenchReload(slot, sections) => field("b", *slot, 0, sections),
             Asked::Empty => "e".to_string(),
             Asked::ChangeOver => "x".to_string(),
             Asked::Join => "j".to_string(),

@@ -7,7 +7,6 @@
 //! cut-off minutes of 255 as missing, which are raw here. Template 4.67, which three messages have, is not listed, so that their section 4
 //! is refused with 6, and with it the message. The messages with offset rows, `ec_3_…_offset`, are made by `cases/offset_rows`.
 use super::answer::{list, lists, row, written};
-use super::shelves::TOP;
 use super::{Asked, Cases};
 use crate::generate::messages::framed;
 use crate::reference::listing::CONTENTS;
@@ -433,7 +432,7 @@ impl Field {
         let gregorian = !self.has(CALENDAR) || self.number(CALENDAR) == 0;
         let (time, template) = (self.time(), self.number(PRODUCT_TEMPLATE));
         let filed = self.has_listed_template() && gregorian;
-        filed.then(|| format!("{slot} {time} {TOP} {template}\n"))
+        filed.then(|| format!("{slot} {time} 0 {template}\n"))
     }
 
     /// The line of a message's contents, where the field has this number and its sections begin at these octets.

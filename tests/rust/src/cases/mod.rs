@@ -7,7 +7,6 @@ mod asked;
 mod build;
 pub mod decoded;
 pub mod demo;
-mod issues;
 mod messages;
 mod queue_edges;
 mod queue_records;

@@ -3,7 +3,7 @@ use super::build::ONES;
 use super::queue_records::{filed, plainly};
 use super::queues::{queue_of, record, Queues};
 use super::section1::plain;
-use super::shelves::{good, ONE, TOP};
+use super::shelves::{good, ONE};
 use crate::generate::queues::spelled;
 use crate::reference::queue::GREATEST;
 
@@ -142,24 +142,14 @@ fn in_range(cases: &mut Queues) {
     let around = [7, 14, 21, 28].map(|bits| [(1 << bits) - 1, 1 << bits]);
     let more = [0, 1, 2, 126, 129, 300, 1 << 31, ONES, 1 << 32];
     for issue_plus_1 in super::build::rising([&around.concat()[..], &more].concat()) {
+        let named = match issue_plus_1 {
+            0 => "-".to_string(),
+            _ => (issue_plus_1 - 1).to_string(),
+        };
         let queue = with_number(ISSUE, &spelled(issue_plus_1));
-        let stated = listed_and_explained(issue_plus_1);
+        let stated = format!("\n1 5 {named} kept\n");
         cases.stated("issues around each number of octets", queue, &stated);
     }
-}
-
-/// The listing has the issue of the card, and the explanation the one that is named, if any.
-fn listed_and_explained(issue_plus_1: u64) -> String {
-    let (listed, explained) = match issue_plus_1 {
-        0 => (u64::from(TOP), "-".to_string()),
-        _ => (issue_plus_1 - 1, (issue_plus_1 - 1).to_string()),
-    };
-    format!(
-        "\n5 2024 3 7 18 30 45 {listed} 0\n\
-         kept 1 passed 0 refused 0\n\
-         record slot issue fate\n\
-         1 5 {explained} kept\n"
-    )
 }
 
 pub fn add(cases: &mut Queues) {

@@ -6,7 +6,7 @@ use super::section3::{grid, Grid};
 use super::section4::smallest;
 use super::section5::{five, seven};
 use super::shelves::{good_but, listing_example, Sections, FIVE, FOUR, ONE, SEVEN, THREE, TOP};
-use super::{decoded, demo, issues, queue_edges, queue_records, Asked, Cases};
+use super::{decoded, demo, queue_edges, queue_records, Asked, Cases};
 use crate::generate::queues::spelled;
 use crate::generate::Rng;
 use crate::reference::product::TEMPLATES;
@@ -56,21 +56,24 @@ fn examples_of_document(cases: &mut Queues) {
     cases.stated("the empty queue", vec![], &stated);
     cases.stated("one record", plainly(0), "\n1 0 0 kept\n");
     let dark = demo::dark_trailer();
-    let stated = "\n20 2024 3 7 12 0 0 4294967295 5\n\
-                  33 2024 3 5 12 0 0 58 0\n\
-                  kept 7 passed 6 refused 0\n";
-    cases.stated("the dark trailer", dark, stated);
+    cases.stated("the dark trailer", dark, "\nkept 7 passed 6 refused 0\n");
     let spoilt = demo::spoilt_records();
     cases.stated("spoilt records", spoilt, "\nkept 2 passed 1 refused 6\n");
 }
 
 fn cards_by_issue(cases: &mut Queues) {
-    let of = |issues: &[u32]| -> Vec<u8> {
+    let of = |issues: &[Option<u32>]| -> Vec<u8> {
         let records = issues.iter().map(|&issue| filed(5, issue, &[]));
         records.flatten().collect()
     };
+    let shows = "none named is issue 0, named later";
+    let stated = "\n1 5 - kept\n2 5 0 passed\n3 5 1 kept\n4 5 - passed\n";
+    cases.stated(shows, of(&[None, Some(0), Some(1), None]), stated);
+    let shows = "none named is issue 0, named before";
+    let stated = "\n1 5 0 kept\n2 5 - passed\n";
+    cases.stated(shows, of(&[Some(0), None]), stated);
     let stated = "\nkept 1 passed 2 refused 0\n";
-    cases.stated("equal cards", of(&[2; 3]), stated);
+    cases.stated("equal cards", of(&[Some(2); 3]), stated);
     let given = [
         (SEVEN, seven(&[5, 6, 7, 8, 9])),
         (ONE, with(&of_template(None), &[(6, 9)])),
@@ -82,7 +85,7 @@ fn cards_by_issue(cases: &mut Queues) {
     let stated = "\nkept 1 passed 4 refused 0\n";
     cases.stated("equal cards of other fields", queue, stated);
     let shows = "the issue decides between equal times";
-    let issues = [3, 4, 2, TOP, TOP - 1];
+    let issues = [3, 4, 2, TOP, TOP - 1].map(Some);
     cases.stated(shows, of(&issues), "\nkept 3 passed 2 refused 0\n");
     let newer = filed(5, 0, &[(ONE, later())]);
     let queue = queue_of(&[filed(5, TOP, &[]), newer, filed(5, TOP, &[])]);
@@ -348,7 +351,6 @@ pub fn add(cases: &mut Cases) {
     examples_of_document(cases);
     queue_records::add(cases);
     queue_edges::add(cases);
-    issues::add_queues(cases);
     cards_by_issue(cases);
     cards_by_product(cases);
     cards_by_year(cases);

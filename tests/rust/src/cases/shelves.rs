@@ -4,7 +4,7 @@ use super::section1::{self, of_template, plain, with_years};
 use super::section3::grid;
 use super::section4::smallest;
 use super::section5::{five, seven};
-use super::{issues, Asked, Cases};
+use super::{Asked, Cases};
 use crate::generate::Rng;
 
 /// The greatest issue.
@@ -66,15 +66,11 @@ fn with_four(slot: u64, issue: u32, four: Vec<u8>) -> Asked {
     filed(slot, issue, &[(FOUR, four)])
 }
 
-pub fn two_empty_shelves(cases: &mut Cases, shows: &str) {
+/// From two empty shelves; what the shelf holds is shown after each order.
+fn history(cases: &mut Cases, shows: &str, orders: impl IntoIterator<Item = Asked>) {
     for order in [Asked::Empty, Asked::ChangeOver, Asked::Empty] {
         cases.add(shows, order);
     }
-}
-
-/// From two empty shelves; what the shelf holds is shown after each order.
-fn history(cases: &mut Cases, shows: &str, orders: impl IntoIterator<Item = Asked>) {
-    two_empty_shelves(cases, shows);
     for order in orders {
         cases.add(shows, order);
         cases.add(shows, Asked::Show);
@@ -85,11 +81,24 @@ fn slots_and_issues(cases: &mut Cases) {
     let top = u64::from(TOP);
     let slots = [0, 1, 62, 63, 64, 65, 255, 256, 320, 65536, top, top + 1];
     history(cases, "slots", slots.map(|slot| filed(slot, 0, &[])));
-    let all = [1, 0, 2, 2, TOP, TOP - 1];
-    history(cases, "the issue", all.map(|issue| filed(5, issue, &[])));
-}
-
-fn example_of_document(cases: &mut Cases) {
+    let mut issues = |shows, issues: &[Option<u32>]| {
+        let orders = issues.iter().map(|&issue| filed(5, issue, &[]));
+        history(cases, shows, orders);
+    };
+    let all = [1, 0, 2, 2, TOP, TOP - 1].map(Some);
+    let shows = "the issue, and none named";
+    issues(shows, &[&all[..2], &[None], &all[2..]].concat());
+    issues("none named is issue 0", &[None, Some(0), Some(1), None]);
+    let reload = |slot| Asked::BenchReload(slot, good());
+    let shows = "the bench reload names no issue";
+    let orders = [filed(5, 0, &[]), reload(5), filed(5, 3, &[]), reload(5)];
+    history(cases, shows, orders);
+    let shows = "the bench reload to an empty slot";
+    history(
+        cases,
+        shows,
+        [reload(9), filed(9, 0, &[]), filed(9, 1, &[])],
+    );
     history(
         cases,
         "the listing's example",
@@ -327,8 +336,6 @@ fn joins(cases: &mut Cases) {
 pub fn add(cases: &mut Cases) {
     cases.begin("shelves: ");
     slots_and_issues(cases);
-    issues::add(cases);
-    example_of_document(cases);
     times(cases);
     products(cases);
     years(cases);

@@ -7,14 +7,13 @@ use super::sections::{
 use super::Rng;
 use crate::reference::queue::GREATEST;
 
-/// The issue + 1; 0 where none is named. None, the lowest issues and the two highest come up often, so that they meet.
+/// The issue + 1; 0 where none is named.
 pub fn stored_issue(rng: &mut Rng) -> u64 {
-    match rng.below(12) {
-        0..=2 => 0,
-        3..=6 => rng.within(1, 3) as u64,
-        7..=9 => rng.pick(&[GREATEST - 1, GREATEST, GREATEST]),
-        10 => rng.pick(&[128, 129, 16_384]),
-        _ => rng.any() % (GREATEST + 1),
+    match rng.below(6) {
+        0 => 0,
+        1 => rng.pick(&[128, 129, 16_384, GREATEST - 1, GREATEST]),
+        2 => rng.any() % (GREATEST + 1),
+        _ => rng.within(1, 3) as u64,
     }
 }
 
@@ -82,14 +81,14 @@ impl Stock {
     /// The same field, or one that differs from it in the time or in the product, or another.
     pub fn field(&self, rng: &mut Rng) -> [Vec<u8>; 5] {
         let mut field = self.field.clone();
-        match rng.below(20) {
-            0..=4 => {
+        match rng.below(10) {
+            0..=2 => {
                 let time = time_beside(rng, self.time);
                 field[0] = section1_at(rng, time);
             }
-            5..=6 => field[0] = section1_at(rng, self.time),
-            7..=10 => touch_product(rng, &mut field[2]),
-            11..=13 => {
+            3 => field[0] = section1_at(rng, self.time),
+            4..=5 => touch_product(rng, &mut field[2]),
+            6..=7 => {
                 let time = time_beside(rng, self.time);
                 let size = Size::some(rng);
                 field = field_at(rng, time, size);
@@ -128,20 +127,10 @@ pub fn damaged_field(rng: &mut Rng, mut field: [Vec<u8>; 5]) -> [Vec<u8>; 5] {
     field
 }
 
-/// The entry that takes a field to a slot.
-#[derive(Clone, Copy, Debug, PartialEq, Eq)]
-pub enum By {
-    Filing {
-        issue_plus_1: u64,
-    },
-    /// The bench reload, which is lent no issue.
-    Reload,
-}
-
-/// What one call for filing or for a reload takes. Each section is exactly as long as it says.
+/// What one call for filing takes. Each section is exactly as long as it says.
 pub struct Filing {
     pub slot: u64,
-    pub by: By,
+    pub issue_plus_1: u64,
     field: [Box<[u8]>; 5],
 }
 
@@ -181,20 +170,11 @@ fn by_chance_above(rng: &mut Rng, number: u64) -> u64 {
 
 impl Stock {
     pub fn filing(&self, rng: &mut Rng) -> Filing {
-        let stored = stored_issue(rng);
-        let issue_plus_1 = by_chance_above(rng, stored);
-        self.lent(rng, By::Filing { issue_plus_1 })
-    }
-
-    pub fn reload(&self, rng: &mut Rng) -> Filing {
-        self.lent(rng, By::Reload)
-    }
-
-    fn lent(&self, rng: &mut Rng, by: By) -> Filing {
-        let (slot, field) = (self.slot(rng), self.field(rng));
+        let (slot, issue_plus_1) = (self.slot(rng), stored_issue(rng));
+        let field = self.field(rng);
         Filing {
             slot: by_chance_above(rng, slot),
-            by,
+            issue_plus_1: by_chance_above(rng, issue_plus_1),
             field: lent_field(rng, field).map(Vec::into_boxed_slice),
         }
     }

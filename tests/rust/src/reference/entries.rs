@@ -69,15 +69,7 @@ pub fn card(slot: u64, issue_plus_1: u64, sections: [&[u8]; 5]) -> Outcome<Card>
     Card::to_file(slot, named_issue(issue_plus_1), sections)
 }
 
-/// The shelf after a card was put to it, and whether the slot changed, into the first of `one` places.
-fn put(shelf: &[u8], slot: u64, card: Card, one: usize) -> Outcome<(Vec<u8>, Filed)> {
-    let mut shelf = lent_shelf(shelf)?;
-    refuse_places(one == 0)?;
-    let filed = shelf.put(slot as usize, Some(card));
-    Ok((shelf.octets(), filed))
-}
-
-/// The shelf after filing.
+/// The shelf after filing, and whether the slot changed, into the first of `one` places.
 pub fn file(
     shelf: &[u8],
     slot: u64,
@@ -85,17 +77,11 @@ pub fn file(
     sections: [&[u8]; 5],
     one: usize,
 ) -> Outcome<(Vec<u8>, Filed)> {
-    put(shelf, slot, card(slot, issue_plus_1, sections)?, one)
-}
-
-/// The shelf after a reload: as filing, without 19, since it is lent no issue.
-pub fn reload(
-    shelf: &[u8],
-    slot: u64,
-    sections: [&[u8]; 5],
-    one: usize,
-) -> Outcome<(Vec<u8>, Filed)> {
-    put(shelf, slot, Card::to_reload(slot, sections)?, one)
+    let card = card(slot, issue_plus_1, sections)?;
+    let mut shelf = lent_shelf(shelf)?;
+    refuse_places(one == 0)?;
+    let filed = shelf.put(slot as usize, Some(card));
+    Ok((shelf.octets(), filed))
 }
 
 /// The shelf after a queue, and what became of the records, whose counts go into the first three of `three` places.
@@ -161,15 +147,12 @@ mod tests {
     }
 
     #[test]
-    fn issue_plus_1_comes_first_and_a_reload_has_none() {
+    fn issue_plus_1_comes_first() {
         let nothing: [&[u8]; 5] = [&[]; 5];
         let filed = |slot, issue_plus_1| file(&[], slot, issue_plus_1, nothing, 0);
         assert_eq!(filed(64, GREATEST + 1), Err(Refusal::of_none(19)));
         assert_eq!(filed(64, GREATEST), Err(Refusal::of_none(16)));
         assert_eq!(filed(63, GREATEST), Err(Refusal::of_section(1, 1)));
-        let reloaded = |slot| reload(&[], slot, nothing, 0);
-        assert_eq!(reloaded(64), Err(Refusal::of_none(16)));
-        assert_eq!(reloaded(63), Err(Refusal::of_section(1, 1)));
     }
 
     #[test]

@@ -7,10 +7,6 @@ pub const SLOTS: usize = 64;
 const PRODUCT_FIRST: usize = 8;
 pub const PRODUCT_OCTETS: usize = 27;
 const GREGORIAN: i64 = 0;
-/// Where no issue is named, the card's issue is this one, the greatest there is.
-const ISSUE_NOT_NAMED: u32 = 4_294_967_295;
-/// The bench reload, which files a kept field again after a repair, names this issue.
-const ISSUE_OF_A_RELOAD: u32 = 0;
 
 /// The derived order is the document's: the fields from the first to the last, the octets from the left.
 #[derive(Clone, Debug, PartialEq, Eq, PartialOrd, Ord)]
@@ -37,19 +33,13 @@ impl Card {
         }
     }
 
-    /// The card that filing takes to a slot: 16, the field's refusals, 17.
+    /// The card that filing takes to a slot: 16, the field's refusals, 17. A caller that names no issue gets issue 0.
     pub fn to_file(slot: u64, issue: Option<u32>, sections: [&[u8]; 5]) -> Outcome<Card> {
         refuse_if(slot >= SLOTS as u64, 16, 0)?;
         let field = field::read(sections)?;
         let calendar = field.identification.calendar.unwrap_or(GREGORIAN);
         refuse_if(calendar != GREGORIAN, 17, 1)?;
-        let issue = issue.unwrap_or(ISSUE_NOT_NAMED);
-        Ok(Card::of(&field, issue, sections[2]))
-    }
-
-    /// The card that the bench reload takes to a slot, with the same refusals.
-    pub fn to_reload(slot: u64, sections: [&[u8]; 5]) -> Outcome<Card> {
-        Card::to_file(slot, Some(ISSUE_OF_A_RELOAD), sections)
+        Ok(Card::of(&field, issue.unwrap_or(0), sections[2]))
     }
 
     /// Real year, month, day, hour, minute, second, issue, and the octets one by one.
@@ -94,11 +84,6 @@ impl Shelf {
         Ok(self.put(slot as usize, Some(card)))
     }
 
-    pub fn reload(&mut self, slot: u64, sections: [&[u8]; 5]) -> Outcome<Filed> {
-        let card = Card::to_reload(slot, sections)?;
-        Ok(self.put(slot as usize, Some(card)))
-    }
-
     pub fn join(&mut self, other: &Shelf) {
         for (slot, card) in other.slots.iter().enumerate() {
             self.put(slot, card.clone());
@@ -115,7 +100,6 @@ impl Shelf {
 #[cfg(test)]
 mod tests {
     use super::*;
-    use crate::examples::{four_by_three, section1, section4, section5, section7};
 
     fn card(year: i64, day: i64, issue: u32) -> Option<Card> {
         Some(Card {
@@ -133,39 +117,6 @@ mod tests {
         assert_eq!(shelf.put(7, card(2024, 7, 40)), Filed::Passed);
         assert_eq!(shelf.put(7, card(2024, 7, 41)), Filed::Kept);
         assert_eq!(shelf.put(7, card(-2024, 9, 99)), Filed::Passed);
-    }
-
-    fn field() -> [Vec<u8>; 5] {
-        let (one, three) = (section1([7, 0xe8], 3, &[]), four_by_three(12));
-        let (four, five) = (section4(8, 58, 0, 1, 0), section5(12, 9));
-        [one, three, four, five, section7(&[0; 14])]
-    }
-
-    #[test]
-    fn none_named_is_the_greatest_issue() {
-        let field = field();
-        let sections = field.each_ref().map(|section| &section[..]);
-        let mut shelf = Shelf::empty();
-        let mut filed = |issue| shelf.file(7, issue, sections);
-        assert_eq!(filed(Some(u32::MAX - 1)), Ok(Filed::Kept));
-        assert_eq!(filed(None), Ok(Filed::Kept));
-        assert_eq!(filed(Some(u32::MAX)), Ok(Filed::Passed));
-        assert_eq!(filed(None), Ok(Filed::Passed));
-    }
-
-    #[test]
-    fn a_reload_names_issue_0() {
-        let field = field();
-        let sections = field.each_ref().map(|section| &section[..]);
-        let mut shelf = Shelf::empty();
-        assert_eq!(shelf.reload(7, sections), Ok(Filed::Kept));
-        assert_eq!(shelf.file(7, Some(0), sections), Ok(Filed::Passed));
-        assert_eq!(shelf.file(7, Some(1), sections), Ok(Filed::Kept));
-        assert_eq!(shelf.reload(7, sections), Ok(Filed::Passed));
-        assert_eq!(
-            shelf.reload(64, sections).map_err(|refusal| refusal.number),
-            Err(16)
-        );
     }
 
     #[test]

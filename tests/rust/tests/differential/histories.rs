@@ -1,14 +1,14 @@
-//! Demand 3 through the entries: fields, reloads, queues and joins in any order and with repeats, after which every slot holds the
-//! greatest card that was accepted for it. What is accepted is the reference's word; which card is the greatest is worked out here from
-//! all of them together and not from one filing to the next.
-use crate::shelves::{answer_to, card_of, filing_in_hex};
+//! Demand 3 through the entries: fields, queues and joins in any order and with repeats, after which every slot holds the greatest
+//! card that was accepted for it. What is accepted is the reference's word; which card is the greatest is worked out here from all
+//! of them together and not from one filing to the next.
+use crate::shelves::filing_in_hex;
 use skogmund_tests::entries::{self, Answer};
 use skogmund_tests::generate::filings::{Filing, Stock};
 use skogmund_tests::generate::queues::queue_of;
 use skogmund_tests::generate::shelves::{any_shelf, shelf_beside};
 use skogmund_tests::generate::Rng;
 use skogmund_tests::lent::hex;
-use skogmund_tests::reference::entries::VALUES;
+use skogmund_tests::reference::entries::{card, VALUES};
 use skogmund_tests::reference::queue::{records, QueueRecord};
 use skogmund_tests::reference::shelf::{Card, SLOTS};
 use skogmund_tests::reference::shelf_octets::SHELF_OCTETS;
@@ -17,7 +17,7 @@ use std::collections::BTreeSet;
 
 type Octets = Vec<u8>;
 
-/// What comes in at a trailer. A field is filed or reloaded.
+/// What comes in at a trailer.
 enum Arrival {
     Field(Filing),
     Queue(Octets),
@@ -25,9 +25,8 @@ enum Arrival {
 
 impl Arrival {
     fn some(rng: &mut Rng, stock: &Stock) -> Arrival {
-        match rng.below(4) {
+        match rng.below(3) {
             0 => Arrival::Queue(queue_of(rng, stock)),
-            1 => Arrival::Field(stock.reload(rng)),
             _ => Arrival::Field(stock.filing(rng)),
         }
     }
@@ -42,7 +41,10 @@ impl Arrival {
     /// The slot and the card of each filing in it, or why there is none; 2 and 19 for a queue as a whole.
     fn cards(&self) -> Outcome<Vec<Outcome<(usize, Card)>>> {
         match self {
-            Arrival::Field(filing) => Ok(vec![Ok((filing.slot as usize, card_of(filing)?))]),
+            Arrival::Field(filing) => {
+                let card = card(filing.slot, filing.issue_plus_1, filing.sections())?;
+                Ok(vec![Ok((filing.slot as usize, card))])
+            }
             Arrival::Queue(queue) => {
                 let card = |record: QueueRecord| Ok((record.slot as usize, record.card()?));
                 Ok(records(queue)?.into_iter().map(card).collect())
@@ -103,8 +105,9 @@ fn after(shelf: &[u8], arrival: &Arrival) -> (Octets, Answer, [u64; 3]) {
     let answer = match arrival {
         Arrival::Queue(queue) => entries::file_queue(&mut shelf, queue, &mut counts),
         Arrival::Field(filing) => {
+            let (slot, issue) = (filing.slot, filing.issue_plus_1);
             let mut kept = [9];
-            let answer = answer_to(filing, &mut shelf, &mut kept);
+            let answer = entries::file(&mut shelf, slot, issue, filing.sections(), &mut kept);
             if answer == Answer::Done {
                 counts = [kept[0], 1 - kept[0].min(1), 0];
             }

@@ -1,5 +1,4 @@
 //! `skogmund_list`.
-use crate::meetings::tally_ties;
 use crate::tally::Tally;
 use skogmund_tests::entries::{self, Answer};
 use skogmund_tests::generate::queues::queue;
@@ -23,7 +22,6 @@ pub fn one_listing(rng: &mut Rng, tally: &mut Tally) -> Result<(), String> {
     let (expected, fates) = listing::listing_and_fates(&queue);
     tally.outcome("list", &fates);
     tally.fates("list", fates.as_deref().unwrap_or(&[]));
-    tally_ties(tally, &queue);
     let places = places_for_text(rng, expected.len());
     let one = places_about(rng, 1);
     let mut text = Lent::new(rng, places, |pattern| pattern as u8);

@@ -7,7 +7,6 @@
 
 mod histories;
 mod listings;
-mod meetings;
 mod messages;
 mod parts_shown;
 mod reading;

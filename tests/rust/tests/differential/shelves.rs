@@ -1,9 +1,8 @@
 //! The entries for shelves. An input is several calls one after the other on two shelves, which begin empty or as any octets, so
 //! that every entry is lent what the others made, and what none of them makes.
-use crate::meetings::tally_meeting;
 use crate::tally::Tally;
 use skogmund_tests::entries::{self, Answer};
-use skogmund_tests::generate::filings::{By, Filing, Stock};
+use skogmund_tests::generate::filings::{Filing, Stock};
 use skogmund_tests::generate::queues::queue_of;
 use skogmund_tests::generate::shelves::{any_shelf, of_another_length, shelf_beside, slot_number};
 use skogmund_tests::generate::Rng;
@@ -11,7 +10,7 @@ use skogmund_tests::lent::{
     change_of, difference_of_answers, exact, hex, places_about, report, Lent,
 };
 use skogmund_tests::reference::entries::VALUES;
-use skogmund_tests::reference::shelf::{Card, Filed, Shelf};
+use skogmund_tests::reference::shelf::{Filed, Shelf};
 use skogmund_tests::reference::shelf_octets::{is_as_written, SHELF_OCTETS};
 use skogmund_tests::reference::{self, queue, Outcome};
 
@@ -99,73 +98,39 @@ fn empty_one(rng: &mut Rng, tally: &mut Tally, here: &mut Octets) -> Result<(), 
 }
 
 pub fn filing_in_hex(filing: &Filing) -> String {
-    let slot = filing.slot;
-    let call = match filing.by {
-        By::Filing { issue_plus_1 } => format!("file slot {slot} issue_plus_1 {issue_plus_1}"),
-        By::Reload => format!("reload slot {slot}"),
-    };
+    let Filing {
+        slot, issue_plus_1, ..
+    } = filing;
     let sections = [1, 3, 4, 5, 7].iter().zip(filing.sections());
     let sections: String = sections
         .map(|(section, s)| format!(" section {section} {}", hex(s)))
         .collect();
-    call + &sections
-}
-
-/// The library's answer to one filing or reload.
-pub fn answer_to(filing: &Filing, shelf: &mut [u8], kept: &mut [u64]) -> Answer {
-    let (slot, sections) = (filing.slot, filing.sections());
-    match filing.by {
-        By::Filing { issue_plus_1 } => entries::file(shelf, slot, issue_plus_1, sections, kept),
-        By::Reload => entries::reload(shelf, slot, sections, kept),
-    }
-}
-
-/// The entry's name, and what is owed by it.
-fn owed_to(filing: &Filing, shelf: &[u8], one: usize) -> (&'static str, Outcome<(Octets, Filed)>) {
-    let (slot, sections) = (filing.slot, filing.sections());
-    match filing.by {
-        By::Filing { issue_plus_1 } => {
-            let owed = reference::entries::file(shelf, slot, issue_plus_1, sections, one);
-            ("file", owed)
-        }
-        By::Reload => {
-            let owed = reference::entries::reload(shelf, slot, sections, one);
-            ("reload", owed)
-        }
-    }
-}
-
-/// The card that comes to the slot by the reference, or why there is none.
-pub fn card_of(filing: &Filing) -> Outcome<Card> {
-    let (slot, sections) = (filing.slot, filing.sections());
-    match filing.by {
-        By::Filing { issue_plus_1 } => reference::entries::card(slot, issue_plus_1, sections),
-        By::Reload => Card::to_reload(slot, sections),
-    }
+    format!("file slot {slot} issue_plus_1 {issue_plus_1}{sections}")
 }
 
 fn file_one(
     rng: &mut Rng,
     tally: &mut Tally,
-    filing: &Filing,
+    stock: &Stock,
     here: &mut Octets,
 ) -> Result<(), String> {
+    let filing = &stock.filing(rng);
     let before = filing.sections().concat();
     let one = places_about(rng, 1);
     let mut shelf = lent_shelf(rng, tally, here);
     let mut kept = Lent::new(rng, one, |pattern| pattern);
-    let answer = answer_to(filing, shelf.lent(), kept.lent());
-    let (entry, owed) = owed_to(filing, shelf.before(), one);
+    let (slot, issue, sections) = (filing.slot, filing.issue_plus_1, filing.sections());
+    let answer = entries::file(shelf.lent(), slot, issue, sections, kept.lent());
+    let owed = reference::entries::file(shelf.before(), slot, issue, sections, one);
     let (written, owed_kept) = match &owed {
         Err(_) => (&[][..], vec![]),
         Ok((octets, filed)) => (&octets[..], vec![u64::from(*filed == Filed::Kept)]),
     };
     if let Ok((_, filed)) = &owed {
-        tally.fates(entry, &[Ok(*filed)]);
-        tally_meeting(tally, filing, shelf.before());
+        tally.fates("file", &[Ok(*filed)]);
     }
     let call = Call {
-        entry,
+        entry: "file",
         answer,
         owed: &owed,
         shelf: &shelf,
@@ -286,19 +251,12 @@ impl Shelves {
     }
 
     fn one_call(&mut self, rng: &mut Rng, tally: &mut Tally, stock: &Stock) -> Result<(), String> {
-        match rng.below(52) {
+        match rng.below(40) {
             0 => empty_one(rng, tally, &mut self.here),
-            1..=16 => {
-                let filing = stock.filing(rng);
-                file_one(rng, tally, &filing, &mut self.here)
-            }
-            17..=28 => {
-                let reload = stock.reload(rng);
-                file_one(rng, tally, &reload, &mut self.here)
-            }
-            29..=36 => file_queue_one(rng, tally, stock, &mut self.here),
-            37..=44 => join_one(rng, tally, self),
-            45..=49 => slot_one(rng, tally, &mut self.here),
+            1..=16 => file_one(rng, tally, stock, &mut self.here),
+            17..=24 => file_queue_one(rng, tally, stock, &mut self.here),
+            25..=32 => join_one(rng, tally, self),
+            33..=37 => slot_one(rng, tally, &mut self.here),
             _ => {
                 self.here = shelf_beside(rng, &self.here);
                 Ok(())
@@ -310,7 +268,7 @@ impl Shelves {
 pub fn calls_on_shelves(rng: &mut Rng, tally: &mut Tally) -> Result<(), String> {
     let stock = Stock::new(rng);
     let mut shelves = Shelves::some(rng);
-    for _ in 0..rng.within(2, 8) {
+    for _ in 0..rng.within(2, 6) {
         shelves.one_call(rng, tally, &stock)?;
         if rng.percent(30) {
             std::mem::swap(&mut shelves.here, &mut shelves.other);

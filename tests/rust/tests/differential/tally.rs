@@ -1,5 +1,5 @@
 //! What came up in a run, and what has to.
-use crate::{meetings, messages};
+use crate::messages;
 use skogmund_tests::reference::shelf::Filed;
 use skogmund_tests::reference::{grid, identification, product, Outcome, Refusal};
 use std::collections::BTreeMap;
@@ -58,10 +58,10 @@ impl Tally {
     }
 
     pub fn missing(&self) -> Vec<String> {
-        let refusals = every_refusal().flat_map(|(entry, section, numbers)| {
+        let refusals = EVERY_REFUSAL.iter().flat_map(|(entry, section, numbers)| {
             numbers
                 .iter()
-                .filter(move |number| !self.refusals.contains_key(&(entry, section, **number)))
+                .filter(|number| !self.refusals.contains_key(&(*entry, *section, **number)))
                 .map(move |number| format!("{entry}: {number} of section {section}"))
         });
         let kinds = every_kind()
@@ -71,9 +71,9 @@ impl Tally {
     }
 }
 
-/// What each entry can meet by document 01 and the header; what `file` and `reload` both can is below. The sections of a body are cut by
-/// their own lengths, so that 1, 2 and 3 can't come up in a queue; those of a message by their numbers too, so that 4 can't come up there.
-const REFUSALS: &[(&str, u8, &[u8])] = &[
+/// What each entry can meet by document 01 and the header. The sections of a body are cut by their own lengths, so that 1, 2 and 3 can't
+/// come up in a queue; those of a message by their numbers too, so that 4 can't come up there.
+const EVERY_REFUSAL: &[(&str, u8, &[u8])] = &[
     ("read", 0, &[18]),
     ("read", 1, &[1, 2, 3, 4, 5, 6, 7, 8, 21]),
     ("read", 3, &[1, 2, 3, 4, 5, 6, 7, 8, 10, 11, 21, 13]),
@@ -99,7 +99,12 @@ const REFUSALS: &[(&str, u8, &[u8])] = &[
     ("message", 5, &[5, 6, 7, 8, 21, 14]),
     ("message", 7, &[15]),
     ("empty", 0, &[18]),
-    ("file", 0, &[19]),
+    ("file", 0, &[16, 18, 19]),
+    ("file", 1, &[1, 2, 3, 4, 5, 6, 7, 8, 21, 17]),
+    ("file", 3, &[1, 2, 3, 4, 5, 6, 7, 8, 10, 11, 21, 13]),
+    ("file", 4, &[1, 2, 3, 4, 5, 6, 7, 8, 9, 11, 21]),
+    ("file", 5, &[1, 2, 3, 4, 5, 6, 7, 8, 21, 14]),
+    ("file", 7, &[1, 2, 3, 4, 15]),
     ("file_queue", 0, &[2, 16, 18, 19, 20]),
     ("file_queue", 1, &[4, 5, 6, 7, 8, 21, 17]),
     ("file_queue", 3, &[4, 5, 6, 7, 8, 10, 11, 21, 13]),
@@ -109,22 +114,6 @@ const REFUSALS: &[(&str, u8, &[u8])] = &[
     ("join", 0, &[18]),
     ("slot", 0, &[16, 18]),
 ];
-
-/// What `file` and `reload` both can meet.
-const OF_BOTH: &[(u8, &[u8])] = &[
-    (0, &[16, 18]),
-    (1, &[1, 2, 3, 4, 5, 6, 7, 8, 21, 17]),
-    (3, &[1, 2, 3, 4, 5, 6, 7, 8, 10, 11, 21, 13]),
-    (4, &[1, 2, 3, 4, 5, 6, 7, 8, 9, 11, 21]),
-    (5, &[1, 2, 3, 4, 5, 6, 7, 8, 21, 14]),
-    (7, &[1, 2, 3, 4, 15]),
-];
-
-fn every_refusal() -> impl Iterator<Item = (&'static str, u8, &'static [u8])> {
-    let both = |&(section, numbers)| ["file", "reload"].map(|entry| (entry, section, numbers));
-    let of_both = OF_BOTH.iter().flat_map(both);
-    REFUSALS.iter().copied().chain(of_both)
-}
 
 const KINDS: &[&str] = &[
     "read: another section number",
@@ -145,8 +134,6 @@ const KINDS: &[&str] = &[
     "list: text written",
     "file: kept",
     "file: passed",
-    "reload: kept",
-    "reload: passed",
     "file_queue: kept",
     "file_queue: passed",
     "file_queue: refused",
@@ -217,8 +204,7 @@ pub fn template_kind(entry: &str, section: u8, template: u64) -> String {
     format!("{entry}: accepted {section}.{template}")
 }
 
-/// The kinds above, the total's refusals at their limits, the points, each width of a row, each template of a section, those of messages,
-/// and how cards meet.
+/// The kinds above, the total's refusals at their limits, the points, each width of a row, each template of a section and those of messages.
 fn every_kind() -> Vec<String> {
     let named = KINDS.iter().map(|kind| kind.to_string());
     let read = every_template().map(|(section, template)| template_kind("read", section, template));
@@ -234,7 +220,6 @@ fn every_kind() -> Vec<String> {
         .chain(read)
         .chain(shown)
         .chain(messages::every_kind())
-        .chain(meetings::every_kind())
         .collect()
 }
 

@@ -1,6 +1,6 @@
 -- `skogmund_file`: 19, or as `filing::file_by_value` answers, and then what is kept.
 -- Assumes nothing.
-use Prim.Native.Nat.{◌≤◌}
+use Prim.Native.Nat.{ℕ, ◌≤◌}
 use mathlib.Core.Path.{◌≡◌, sym, ap, ap₂, ◌∙◌}
 use borrow.Author.Rules.{rules}
 use borrow.Author.Tests.{lt-ltb, le-ltb}
@@ -11,8 +11,9 @@ use Rattle.filing.specs.declared.Issue.{Issue}
 use Rattle.filing.specs.declared.Filed.{Filed}
 use Rattle.filing.specs.Filing.{filed_of, issue_from}
 use Rattle.filing.proofs.StoredIssues.{stored-issue, too_large}
+use Rattle.lent.specs.Lent.{done_both}
+use Rattle.skogmund.specs.Shelves.{field_kept, filed_field}
 use Rattle.filing.proofs.RefusalNumbers.{filing-refuses}
-use Rattle.skogmund.specs.Shelves.{filed_field}
 use Rattle.skogmund.proofs.shelves.skogmund_file.Statement.{statement}
 use Rattle.skogmund.proofs.shelves.skogmund_file.Tie as tie
 
@@ -46,17 +47,34 @@ returns c =
     let stored = x.before.before.before.before.before.before.before.before.args.issue-plus-1 in
     simp (lt-ltb _ _ (too_large stored (sym x.issue-from.ensures ∙ c.enum_told.given.1)))
 
-keep-field-requires : tie.Need-keep-field-requires
-keep-field-requires c κs x e =
-    let f = c.before.before in
-    (filing-refuses _ _ _ _ _ _ _ _ x (sym (ap (λ (x : Filed). x.answer) (filed-is f)) ∙ e)).placed.within
+code-requires : tie.Need-code-requires
+code-requires c κs =
+    let f = c.before.before.before.before in
+    (filing-refuses _ _ _ _ _ _ _ _ _ (sym (ap (λ (x : Filed). x.answer) (filed-is f)) ∙ c.before.answer.given.1)).placed.within
 
 returns-2 : tie.Need-returns-2
-unfolding filed_field
+unfolding filed_field field_kept
 returns-2 c =
     let k = c.before.before.before.before in
-    let f = k.before.before.before in
-    rw (le-ltb _ _ (stored_is f).0, ← filed-is f) k.keep-field.ensures
+    let told = k.before.before.before.before in
+    let f = told.before.before.before in
+    rw (le-ltb _ _ (stored_is f).0, ← filed-is f, told.enum-told2.given.1) k.keep.ensures
+
+returns-3 : tie.Need-returns-3
+unfolding filed_field field_kept
+returns-3 c =
+    let k = c.before.before.before.before in
+    let told = k.before.before.before.before in
+    let f = told.before.before.before in
+    rw (le-ltb _ _ (stored_is f).0, ← filed-is f, told.enum-told3.given.1) k.keep2.ensures
+
+returns-4 : tie.Need-returns-4
+unfolding filed_field field_kept
+returns-4 c =
+    let a = c.before.before in
+    let f = a.before.before.before in
+    rw (le-ltb _ _ (stored_is f).0, ← filed-is f, a.answer.given.1)
+    (ap (λ (n : ℕ). done_both n (start_of f).args.shelf.now (start_of f).args.kept.now) c.code.ensures)
 
 pub skogmund-file-spec : {M : Type 1} → statement M
 skogmund-file-spec =
@@ -68,7 +86,19 @@ skogmund-file-spec =
     returns
     free
     free
-    keep-field-requires
     (λ c. search rules)
     (λ c. search rules)
-    returns-2)
+    free
+    (λ c. search rules)
+    (λ c. search rules)
+    free
+    (λ c. search rules)
+    code-requires
+    (λ c. search rules)
+    (λ c. search rules)
+    returns-2
+    (λ c. search rules)
+    (λ c. search rules)
+    returns-3
+    (λ c. search rules)
+    returns-4)
