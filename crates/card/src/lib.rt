@@ -1,4 +1,6 @@
 // A card: what decides which field of a slot is the newer one, and the one order of cards.
+#![tactic(auto)]
+
 ghost use Rattle.std.specs.Prelude.{◌≡◌, cond, true, false, map, ltb, pos};
 ghost use Rattle.std.specs.Int.Signed.{lt_z};
 ghost use Rattle.octets.specs.Octets.{part};
@@ -6,7 +8,7 @@ ghost use Rattle.card.specs.Order.{lex};
 ghost use Rattle.card.specs.Key.{less_card};
 
 // The real reference time, the issue number, and octets 8-34 of section 4.
-#[derive(Drop)]
+#[derive(Clone, Copy)]
 pub struct Card {
     pub year: i32,
     pub month: u8,

@@ -5,7 +5,7 @@ use layout::Refusal;
 use shelf::{Shelf, Slot};
 
 // The shelf that fields are filed to, and another.
-#[derive(Drop)]
+#[derive(Clone, Copy)]
 pub(crate) struct Shelves {
     pub(crate) here: Shelf,
     pub(crate) other: Shelf,

@@ -1,10 +1,12 @@
 // Octets cut one thing after the other: numbers in groups of seven bits, and sections by their own length octets.
+#![tactic(auto)]
+
 ghost use Rattle.std.specs.Prelude.{◌≡◌};
 ghost use Rattle.cutting.specs.Numbers.{groups, leading_number};
 ghost use Rattle.cutting.specs.Sections.{stretch, end_after};
 
 // A number and how many octets it takes, or that none stands there.
-#[derive(Drop)]
+#[derive(Clone, Copy)]
 pub enum Number {
     Found(u64, usize),
     Malformed,

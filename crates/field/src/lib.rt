@@ -11,7 +11,7 @@ use packing::Packing;
 use product::Product;
 
 // The four records. Of section 7 nothing is left to say: its number is 7, and its length follows from section 5.
-#[derive(Drop)]
+#[derive(Clone, Copy)]
 pub struct WholeField {
     pub identification: Identification,
     pub grid: Grid,
@@ -19,7 +19,7 @@ pub struct WholeField {
     pub packing: Packing,
 }
 
-#[derive(Drop)]
+#[derive(Clone, Copy)]
 pub enum Answer {
     Read(WholeField),
     Refused(Refusal),

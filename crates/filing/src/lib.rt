@@ -9,14 +9,14 @@ use layout::Refusal;
 use shelf::{PutDone, Shelf};
 
 // The issue that dispatch names, or that a caller names none.
-#[derive(Drop)]
+#[derive(Clone, Copy)]
 pub enum Issue {
     NotNamed,
     Named(u32),
 }
 
 // What a number says that stores an issue: the issue, or that it is above 4,294,967,296 and stores none.
-#[derive(Drop)]
+#[derive(Clone, Copy)]
 pub enum StoredIssue {
     Is(Issue),
     TooLarge,
@@ -25,14 +25,14 @@ pub enum StoredIssue {
 // What a caller gets who names no issue.
 pub const DEFAULT_ISSUE: u32 = 0;
 
-#[derive(Drop)]
+#[derive(Clone, Copy)]
 pub enum Answer {
     Kept,
     Passed,
     Refused(Refusal),
 }
 
-#[derive(Drop)]
+#[derive(Clone, Copy)]
 pub struct Filed {
     pub shelf: Shelf,
     pub answer: Answer,

@@ -8,14 +8,14 @@ use crate::templates::Template;
 use layout::U32OrMissing;
 
 // A number of the earth's size, by its scale factor.
-#[derive(Drop)]
+#[derive(Clone, Copy)]
 pub struct EarthSize {
     pub factor: U32OrMissing,
     pub value: U32OrMissing,
 }
 
 // Octets 15 to 30.
-#[derive(Drop)]
+#[derive(Clone, Copy)]
 pub struct Earth {
     pub shape: u8,
     pub radius: EarthSize,
@@ -24,7 +24,7 @@ pub struct Earth {
 }
 
 // Octets 15 to 72, the same in all four templates.
-#[derive(Drop)]
+#[derive(Clone, Copy)]
 pub struct Common {
     pub earth: Earth,
     pub ni: U32OrMissing,
@@ -42,7 +42,7 @@ pub struct Common {
 }
 
 // The southern pole of projection with the angle of rotation, or the pole of stretching with the stretching factor.
-#[derive(Drop)]
+#[derive(Clone, Copy)]
 pub struct Pole {
     pub latitude: i32,
     pub longitude: i32,
@@ -50,7 +50,7 @@ pub struct Pole {
 }
 
 // What a template has behind octet 72. Where it has both, the pole of projection comes first.
-#[derive(Drop)]
+#[derive(Clone, Copy)]
 pub enum Poles {
     None,
     Rotated(Pole),
@@ -59,7 +59,7 @@ pub enum Poles {
 }
 
 // Every field once.
-#[derive(Drop)]
+#[derive(Clone, Copy)]
 pub struct Grid {
     pub length: u32,
     pub number: u8,

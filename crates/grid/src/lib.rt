@@ -1,4 +1,6 @@
 // Section 3: the grid, templates 3.0 to 3.3, and the list behind it.
+#![tactic(auto)]
+
 ghost use Rattle.std.specs.Prelude.{◌≡◌};
 ghost use Rattle.grid.specs.Section3.{outcome₃, as_template, told, refusal_in};
 
@@ -19,7 +21,7 @@ pub use blocks::{Common, Earth, EarthSize, Grid, Pole, Poles};
 pub use templates::Template;
 pub use views::{list, list_span};
 
-#[derive(Drop)]
+#[derive(Clone, Copy)]
 pub enum Answer {
     Read(Grid),
     Refused(Refusal),

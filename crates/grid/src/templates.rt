@@ -7,7 +7,7 @@ ghost use Rattle.grid.specs.Templates.{template_numbered, base_end, is_missing, 
 use crate::blocks::Grid;
 
 // 3.0, 3.1, 3.2 and 3.3: latitude and longitude, rotated, stretched, or both.
-#[derive(Drop)]
+#[derive(Clone, Copy)]
 pub enum Template {
     LatLon,
     Rotated,

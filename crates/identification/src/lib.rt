@@ -1,4 +1,6 @@
 // Section 1: where a field comes from and its reference time.
+#![tactic(auto)]
+
 ghost use Rattle.std.specs.Prelude.{◌≡◌, ◌++◌, ◌∷◌, pos};
 ghost use Rattle.octets.specs.Octets.{be_at, sign_of, real_year};
 ghost use Rattle.layout.specs.Fields.{is, after, bad_place, lowest_bad, values_of};
@@ -8,7 +10,7 @@ ghost use Rattle.identification.specs.Section1.{outcome₁, by_template, as_temp
 use layout::{Refusal, Time};
 
 // How a section 1 goes on after octet 21: not at all, or by template 1.0, 1.1 or 1.2.
-#[derive(Drop)]
+#[derive(Clone, Copy)]
 pub enum Template {
     None,
     Calendar,
@@ -16,26 +18,26 @@ pub enum Template {
     CalendarAndOffset,
 }
 
-#[derive(Drop)]
+#[derive(Clone, Copy)]
 pub enum TemplateNumber {
     None,
     Is(u16),
 }
 
-#[derive(Drop)]
+#[derive(Clone, Copy)]
 pub enum CalendarCode {
     None,
     Is(u8),
 }
 
-#[derive(Drop)]
+#[derive(Clone, Copy)]
 pub enum YearOffset {
     None,
     Is(i32),
 }
 
 // Every field once, and the real year beside year and offset.
-#[derive(Drop)]
+#[derive(Clone, Copy)]
 pub struct Identification {
     pub length: u32,
     pub number: u8,
@@ -54,7 +56,7 @@ pub struct Identification {
     pub real_year: i32,
 }
 
-#[derive(Drop)]
+#[derive(Clone, Copy)]
 pub enum Answer {
     Read(Identification),
     Refused(Refusal),

@@ -1,6 +1,8 @@
 // What the readers of sections share: refusals and their first four numbers, places of fields out of their range, numbers
 // that may be missing, the time that stands in two sections, and where a part of one stands. Octets are counted from 1; `end` is
 // the octet after which a block of fields stands. Every function takes every input.
+#![tactic(auto)]
+
 ghost use Rattle.std.specs.Prelude.{◌≡◌, cond};
 ghost use Rattle.octets.specs.Octets.{be_at};
 ghost use Rattle.layout.specs.Fields.{between, not_ones, not_zero, means, unsigned, signed, or_missing, after, values_of, lowest_bad};
@@ -10,7 +12,7 @@ ghost use Rattle.layout.specs.Time.{time, time_in};
 ghost use Rattle.layout.specs.Spans.{span_after};
 
 // Why something was refused: document 01's number, the section asked for, and the place.
-#[derive(Drop)]
+#[derive(Clone, Copy)]
 pub struct Refusal {
     pub number: u8,
     pub section: u8,
@@ -170,14 +172,14 @@ pub fn nonzero32(s: &[u8], at: usize, later: usize) -> usize
 // ---- numbers that may be missing
 
 // A number of whatever octet count.
-#[derive(Drop)]
+#[derive(Clone, Copy)]
 pub enum U32OrMissing {
     Missing,
     Is(u32),
 }
 
 // A number by sign and magnitude, of whatever octet count.
-#[derive(Drop)]
+#[derive(Clone, Copy)]
 pub enum I32OrMissing {
     Missing,
     Is(i32),
@@ -240,7 +242,7 @@ pub fn signed32_or_missing(s: &[u8], at: usize) -> I32OrMissing
 
 // ---- the time that stands in sections 1 and 4, behind its year
 
-#[derive(Drop)]
+#[derive(Clone, Copy)]
 pub struct Time {
     pub month: u8,
     pub day: u8,
@@ -277,7 +279,7 @@ pub fn bad_time(s: &[u8], end: u32, later: usize) -> usize
 // ---- the parts that a caller is shown
 
 // Where a part stands: how many octets are before it, and how many it has. One without octets stands nowhere: 0 and 0.
-#[derive(Drop)]
+#[derive(Clone, Copy)]
 pub struct Span {
     pub before: usize,
     pub length: usize,

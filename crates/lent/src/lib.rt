@@ -1,4 +1,6 @@
 // Writes into lent memory. Octets go into a buffer from index `at` on, as far as there is room, and the answer is the index after them.
+#![tactic(auto)]
+
 ghost use Rattle.std.specs.Prelude.{◌≡◌, true, false, [], ◌∷◌, leb, length};
 ghost use Rattle.lent.specs.Lent.{done, over, if_room};
 ghost use Rattle.lent.specs.Written.{written, append};

@@ -16,7 +16,7 @@ const START: u32 = 0x4752_4942;
 const END: u32 = 0x3737_3737;
 
 // Where the five sections of a field stand in their message.
-#[derive(Drop)]
+#[derive(Clone, Copy)]
 pub struct Sections {
     pub one: Span,
     pub three: Span,
@@ -26,7 +26,7 @@ pub struct Sections {
 }
 
 // The fields of a message, of which the first `count` are there. A refused message has none; where none refuses, the refusal is none.
-#[derive(Drop)]
+#[derive(Clone, Copy)]
 pub struct Cut {
     pub refusal: Refusal,
     pub count: usize,

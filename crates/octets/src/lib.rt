@@ -1,5 +1,7 @@
 // Numbers in the octets of a lent slice: big-endian, and sign and magnitude. Octets are counted from 1, as document 01
 // does, and an octet that is not there counts as 0, so every public function takes every input.
+#![tactic(auto)]
+
 ghost use Rattle.std.specs.Prelude.{◌≡◌, cond, ◌-◌, ◌*◌, ◌^◌, ◌<◌, ◌≤◌, ltb, pos, neg_ℤ, take, drop};
 ghost use Rattle.octets.specs.Octets.{be_at, sign_of, real_year};
 

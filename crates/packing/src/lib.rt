@@ -8,7 +8,7 @@ ghost use Rattle.packing.specs.Unpacking.{Unpacks};
 use layout::Refusal;
 
 // Section 5: every field once. `values` is N, `reference` R as bits, `binary_scale` E and `decimal_scale` D.
-#[derive(Drop)]
+#[derive(Clone, Copy)]
 pub struct Packing {
     pub length: u32,
     pub number: u8,
@@ -21,27 +21,27 @@ pub struct Packing {
     pub value_type: u8,
 }
 
-#[derive(Drop)]
+#[derive(Clone, Copy)]
 pub enum Answer {
     Read(Packing),
     Refused(Refusal),
 }
 
 // Section 7, beside its packed values, which are its octets from octet 6 on.
-#[derive(Drop)]
+#[derive(Clone, Copy)]
 pub struct DataSection {
     pub length: u32,
     pub number: u8,
 }
 
-#[derive(Drop)]
+#[derive(Clone, Copy)]
 pub enum DataAnswer {
     Read(DataSection),
     Refused(Refusal),
 }
 
 // How many numbers were written.
-#[derive(Drop)]
+#[derive(Clone, Copy)]
 pub enum Unpacked {
     Written(u32),
     Refused(Refusal),

@@ -8,14 +8,14 @@ ghost use Rattle.product.specs.Templates.{values₄, PartSays};
 use crate::templates::{PartKind, front_end, part_end};
 use layout::{I32OrMissing, Time, U32OrMissing};
 
-#[derive(Drop)]
+#[derive(Clone, Copy)]
 pub struct Parameter {
     pub category: u8,
     pub number: u8,
 }
 
 // The generating process and the data's cut-off.
-#[derive(Drop)]
+#[derive(Clone, Copy)]
 pub struct Process {
     pub kind: u8,
     pub background: u8,
@@ -24,26 +24,26 @@ pub struct Process {
     pub cutoff_minutes: u8,
 }
 
-#[derive(Drop)]
+#[derive(Clone, Copy)]
 pub struct Forecast {
     pub unit: u8,
     pub time: i32,
 }
 
 // A number as its scale factor and its scaled value.
-#[derive(Drop)]
+#[derive(Clone, Copy)]
 pub struct Scaled {
     pub factor: I32OrMissing,
     pub value: I32OrMissing,
 }
 
-#[derive(Drop)]
+#[derive(Clone, Copy)]
 pub struct Surface {
     pub kind: u8,
     pub level: Scaled,
 }
 
-#[derive(Drop)]
+#[derive(Clone, Copy)]
 pub struct EnsemblePart {
     pub kind: u8,
     pub perturbation: u8,
@@ -51,7 +51,7 @@ pub struct EnsemblePart {
 }
 
 // `nc` is how many member numbers there are. Position, radius, deviation and distance are raw.
-#[derive(Drop)]
+#[derive(Clone, Copy)]
 pub struct ClusterPart {
     pub derived: u8,
     pub forecasts: u8,
@@ -70,7 +70,7 @@ pub struct ClusterPart {
     pub distance: u32,
 }
 
-#[derive(Drop)]
+#[derive(Clone, Copy)]
 pub struct ProbabilityPart {
     pub number: u8,
     pub probabilities: u8,
@@ -79,7 +79,7 @@ pub struct ProbabilityPart {
     pub upper: Scaled,
 }
 
-#[derive(Drop)]
+#[derive(Clone, Copy)]
 pub struct AerosolPart {
     pub kind: u16,
     pub interval_of_sizes: u8,
@@ -87,7 +87,7 @@ pub struct AerosolPart {
     pub second: Scaled,
 }
 
-#[derive(Drop)]
+#[derive(Clone, Copy)]
 pub enum Part {
     None,
     Ensemble(EnsemblePart),
@@ -97,7 +97,7 @@ pub enum Part {
 }
 
 // The end of the interval, and n, how many time ranges there are.
-#[derive(Drop)]
+#[derive(Clone, Copy)]
 pub struct IntervalEnd {
     pub year: u16,
     pub time: Time,
@@ -105,14 +105,14 @@ pub struct IntervalEnd {
     pub missing_count: u32,
 }
 
-#[derive(Drop)]
+#[derive(Clone, Copy)]
 pub enum Interval {
     None,
     Ends(IntervalEnd),
 }
 
 // Every field once. `nv` is how many coordinate values there are.
-#[derive(Drop)]
+#[derive(Clone, Copy)]
 pub struct Product {
     pub length: u32,
     pub number: u8,

@@ -1,4 +1,6 @@
 // Section 4: the product, by templates 4.0, 4.1, 4.4, 4.5, 4.8, 4.9, 4.11, 4.14 and 4.46. Every function takes every input.
+#![tactic(auto)]
+
 ghost use Rattle.std.specs.Prelude.{◌≡◌};
 ghost use Rattle.product.specs.Section4.{as_template, outcome₄, told, refusal_in};
 
@@ -21,7 +23,7 @@ pub use views::{
     coordinate_list, coordinate_span, member_list, member_span, range_span, time_range,
 };
 
-#[derive(Drop)]
+#[derive(Clone, Copy)]
 pub enum Answer {
     Read(Product),
     Refused(Refusal),

@@ -3,7 +3,7 @@ ghost use Rattle.std.specs.Prelude.{◌≡◌};
 ghost use Rattle.product.specs.Templates.{template_of, front_end, part_end, ranges_end, total, ranges_at, lack_of_ranges, members_at};
 
 // Which part a template has.
-#[derive(Drop)]
+#[derive(Clone, Copy)]
 pub enum PartKind {
     None,
     Ensemble,
@@ -13,7 +13,7 @@ pub enum PartKind {
 }
 
 // What a template's number says: its part, and whether it speaks of an interval, with time ranges, or of a point in time.
-#[derive(Drop)]
+#[derive(Clone, Copy)]
 pub enum Template {
     NotListed,
     Listed { kind: PartKind, timed: bool },

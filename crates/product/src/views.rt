@@ -19,7 +19,7 @@ fn template_read(section: &[u8]) -> Template
 }
 
 // `ranges` time ranges of 12 octets each, the first after octet `ranges_after`; then the members and the coordinate values.
-#[derive(Drop)]
+#[derive(Clone, Copy)]
 struct Lists {
     ranges_after: u32,
     ranges: u8,

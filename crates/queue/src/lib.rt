@@ -11,7 +11,7 @@ use layout::Refusal;
 use shelf::Shelf;
 
 // The slot and the issue that the queue has, and where the body stands: from index `start` up to index `end`.
-#[derive(Drop)]
+#[derive(Clone, Copy)]
 pub struct Head {
     pub slot: u64,
     pub issue: Issue,
@@ -19,7 +19,7 @@ pub struct Head {
     pub end: usize,
 }
 
-#[derive(Drop)]
+#[derive(Clone, Copy)]
 pub enum Record {
     Whole(Head),
     Broken,
@@ -55,7 +55,7 @@ pub fn record_of(octets: &[u8]) -> Record
 }
 
 // Where sections 1, 3, 4 and 5 of a body end: the index after each one's last octet, at which the next one starts.
-#[derive(Drop)]
+#[derive(Clone, Copy)]
 pub struct Ends {
     pub one: usize,
     pub three: usize,
@@ -63,7 +63,7 @@ pub struct Ends {
     pub five: usize,
 }
 
-#[derive(Drop)]
+#[derive(Clone, Copy)]
 pub enum Body {
     Five(Ends),
     NotFive,
@@ -134,7 +134,7 @@ pub fn file_record(shelf: Shelf, octets: &[u8], head: Head) -> Filed
 }
 
 // How many records were kept (the slot changed), passed (it did not) and refused.
-#[derive(Drop)]
+#[derive(Clone, Copy)]
 pub struct Counts {
     pub kept: usize,
     pub passed: usize,
@@ -142,19 +142,19 @@ pub struct Counts {
 }
 
 // The shelf after some records, and what became of them.
-#[derive(Drop)]
+#[derive(Clone, Copy)]
 pub struct Progress {
     pub shelf: Shelf,
     pub counts: Counts,
 }
 
-#[derive(Drop)]
+#[derive(Clone, Copy)]
 pub enum QueueAnswer {
     Filed(Counts),
     Refused(Refusal),
 }
 
-#[derive(Drop)]
+#[derive(Clone, Copy)]
 pub struct QueueFiled {
     pub shelf: Shelf,
     pub answer: QueueAnswer,

@@ -1,4 +1,6 @@
 // A shelf of 64 slots, each of which keeps the greatest card that was put to it.
+#![tactic(auto)]
+
 ghost use Rattle.std.specs.Prelude.{◌≡◌};
 ghost use Rattle.shelf.specs.Shelves.{less_slot, greater_slot, blank, slot_at, empty_shelf, put_of, join_shelf};
 
@@ -6,19 +8,19 @@ use card::Card;
 
 // A slot is held or empty. Every shelf that these functions make from the empty one has the blank card in its empty slots, so that equal slots
 // are equal values there.
-#[derive(Drop)]
+#[derive(Clone, Copy)]
 pub struct Slot {
     pub held: bool,
     pub card: Card,
 }
 
-#[derive(Drop)]
+#[derive(Clone, Copy)]
 pub struct Shelf {
     pub slots: [Slot; 64],
 }
 
 // The shelf after a card was put to it, and whether its slot changed.
-#[derive(Drop)]
+#[derive(Clone, Copy)]
 pub struct PutDone {
     pub shelf: Shelf,
     pub changed: bool,

@@ -2,7 +2,7 @@
 ghost use Rattle.standard.specs.Input.{Holds};
 
 // How many octets were read, at the start of the buffer, or that a read failed.
-#[derive(Drop)]
+#[derive(Clone, Copy)]
 pub enum Input {
     Octets(usize),
     Failed,

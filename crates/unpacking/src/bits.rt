@@ -5,14 +5,14 @@ ghost use Rattle.unpacking.specs.Filled.{filled};
 ghost use Rattle.unpacking.specs.Reading.{Reading};
 
 // Bit `bit` of octet `at`, both counted from 0.
-#[derive(Drop)]
+#[derive(Clone, Copy)]
 pub struct Cursor {
     pub at: usize,
     pub bit: u32,
 }
 
 // A number, and the bit after it.
-#[derive(Drop)]
+#[derive(Clone, Copy)]
 pub struct Found {
     pub value: u32,
     pub next: Cursor,

@@ -18,7 +18,7 @@ ghost use Rattle.unpacking.specs.Filled.{filled};
 ghost use Rattle.unpacking.specs.Standing.{Stands};
 
 // How far a run is: the octets taken, the numbers written, and the `left` bits that no number has taken yet, which make the number `held`.
-#[derive(Drop)]
+#[derive(Clone, Copy)]
 pub struct Run {
     pub taken: usize,
     pub written: usize,

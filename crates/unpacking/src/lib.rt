@@ -1,6 +1,8 @@
 // Numbers of one width out of packed octets, one after the other without a gap, the most significant bit first. Two engines with one promise: `bits`
 // takes one bit at a time and is the plainest; `carrying` takes one octet at a time and is the one to read. `eights` makes `carrying` faster. The two
 // and `unpack` are for C too (`include/unpacking.h`), so that tests and benchmarks can run each by itself.
+#![tactic(auto)]
+
 ghost use Rattle.std.specs.Prelude.{◌≡◌};
 ghost use Rattle.unpacking.specs.Filled.{filled};
 

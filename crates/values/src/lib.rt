@@ -160,7 +160,7 @@ fn put_fields(s: &[u8], letters: &[u8], values: &mut [i64])
 }
 
 // A field's number, and how many octets it has.
-#[derive(Drop)]
+#[derive(Clone, Copy)]
 struct Found(i64, usize);
 
 // The field from octet `at` on.

@@ -1,0 +1,20 @@
+use Rattle.card.specs.Order.{lex}
+use Rattle.card.proofs.Octets.{from, lex-at, lex-end}
+use mathlib.Core.Path.{◌≡◌, refl, sym, ◌∙◌}
+use mathlib.Core.Bool.{cond, true, false}
+use mathlib.Core.List.{map}
+use lib.Dec.{ltb}
+use Prim.Native.Nat.{◌+◌, ◌≤◌, ◌-◌}
+use native.Mathlib.Omega.{arith}
+use lib.ListN.{length, get_or}
+use lib.IntN.{pos}
+use lib.Signed.{lt_z}
+use borrow.Author.Tests.{lt-ltb, le-ltb}
+use borrow.Author.Rules.{rules}
+use Rattle.card.proofs.less_octets.Given as goal
+
+abbrev pub invariant-loop-i : goal.invariant-loop-i
+invariant-loop-i l = (l.i ≤ 27) × (lex lt_z (map pos l.a) (map pos l.b) ≡ lex lt_z (from l.a l.i) (from l.b l.i))
+
+abbrev pub decreases-loop-i : goal.decreases-loop-i
+decreases-loop-i l = 27 - l.i

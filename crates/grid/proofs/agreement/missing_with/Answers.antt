@@ -1,0 +1,33 @@
+use Rattle.octets.proofs.Free.{free}
+use borrow.Author.Tests.{not-true, not-false}
+use Rattle.grid.specs.Agreement.{missing_with}
+use Rattle.grid.proofs.agreement.missing_with.Goals as goal
+
+pub returns-then-not-missing : goal.returns-then-not-missing
+unfolding missing_with
+returns-then-not-missing c = let m = c.missing in simp (← m.ensures, not-true m.result c.if-not-missing.true)
+
+pub returns-then-not-missing-2 : goal.returns-then-not-missing-2
+unfolding missing_with
+returns-then-not-missing-2 c =
+    let m = c.missing in
+    let n = c.missing-2 in
+    simp (
+      ← m.ensures,
+      not-false m.result c.if-not-missing.false,
+      ← n.ensures,
+      not-true n.result c.if-not-missing-2.true,
+    )
+
+pub returns : goal.returns
+unfolding missing_with
+returns c =
+    let m = c.missing in
+    let n = c.missing-2 in
+    simp (
+      ← m.ensures,
+      not-false m.result c.if-not-missing.false,
+      ← n.ensures,
+      not-false n.result c.if-not-missing-2.false,
+      ← c.missing-3.ensures,
+    )

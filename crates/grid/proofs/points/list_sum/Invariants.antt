@@ -1,0 +1,22 @@
+use Rattle.octets.proofs.Free.{free}
+use Prim.Native.Nat.{ℕ, ◌+◌, ◌-◌, ◌*◌, ◌≤◌}
+use Rattle.octets.specs.Octets.{be_at}
+use mathlib.Core.Path.{◌≡◌, refl, ap, ◌∙◌}
+use mathlib.Core.Bool.{true}
+use native.Mathlib.Nat.{mul-add, mul-zero, mul-one}
+use native.Mathlib.Numerals.{add-one}
+use native.Mathlib.Omega.{arith}
+use borrow.Author.Rules.{rules}
+use Rattle.grid.specs.Blocks.{has_list}
+use Rattle.grid.specs.Points.{sum_of}
+use Rattle.grid.proofs.points.list_sum.Given as goal
+
+abbrev pub invariant-loop-i : goal.invariant-loop-i
+invariant-loop-i l = (l.i ≤ l.count)
+    × (l.at ≡ l.end + 1 + l.width * l.i)
+    × (l.at ≤ l.end + 1 + 255 * l.i)
+    × (l.sum ≤ 4294967295 * l.i)
+    × (has_list l.width ≡ true → l.sum ≡ sum_of l.end l.width l.section l.i)
+
+abbrev pub decreases-loop-i : goal.decreases-loop-i
+decreases-loop-i l = l.count - l.i

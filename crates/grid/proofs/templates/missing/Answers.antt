@@ -1,0 +1,5 @@
+use Rattle.octets.proofs.Free.{free}
+use Rattle.grid.proofs.templates.missing.Goals as goal
+
+pub returns : goal.returns
+returns c = simp (← c.u32_at.ensures)

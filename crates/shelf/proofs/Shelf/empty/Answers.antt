@@ -1,0 +1,7 @@
+-- `shelf::Shelf::empty` meets its contract.
+-- Assumes nothing.
+use borrow.Author.Rules.{rules}
+use Rattle.shelf.proofs.Shelf.empty.Goals as goal
+
+pub returns : goal.returns
+returns c = rw c.blank_slot-slot.ensures
