@@ -25,12 +25,6 @@ by-points : (template : Template) (s : List ℕ) (x : Refusal) → x ≡ first_r
 unfolding Numbered
 by-points template s x p = rw p (by-refusal 3 (points_reasons template s) (read (values₃ template s)) ((λ h. refl), tt))
 
-abbrev template : goal.After-points-refusal → Template
-template c = c.args.template
-
-abbrev section : goal.After-points-refusal → List ℕ
-section c = c.args.section.now
-
 pub returns-then-section-base_end : goal.returns-then-section-base_end
 unfolding told as_template
 returns-then-section-base_end c = rw template-first (simp (c.of.ensures, ← c.base_end.ensures, lt-ltb _ _ c.if-section-base_end.true))
@@ -52,11 +46,11 @@ returns-then-refused-ne0 c =
 pub returns-then-by_points-ne0 : goal.returns-then-by_points-ne0
 unfolding told as_template
 returns-then-by_points-ne0 c =
-    let decided : as_template (template c) (section c) ≡ cond (eqb c.points_refusal-by_points.result.number 0) (read (values₃ (template c) (section c))) (refused_by c.points_refusal-by_points.result) = let own = c.disagreement-own.ensures in let agree = then-agreed _ _ _ (section c) _ c.fitting_refusal-refused.ensures c.if-refused-ne0.false own in rw template-first (rw (← c.total_of-total.ensures) (simp (← c.base_end.ensures, le-ltb _ _ c.if-section-base_end.false, ← c.bad_place-bad.ensures, ← own, ← c.fitting_refusal-refused.ensures, eq-eqb _ _ c.if-refused-ne0.false) (by-points (template c) (section c) c.points_refusal-by_points.result (c.points_refusal-by_points.ensures agree)))) in
+    let decided : as_template c.args.template c.args.section.now ≡ cond (eqb c.points_refusal-by_points.result.number 0) (read (values₃ c.args.template c.args.section.now)) (refused_by c.points_refusal-by_points.result) = let own = c.disagreement-own.ensures in let agree = then-agreed _ _ _ c.args.section.now _ c.fitting_refusal-refused.ensures c.if-refused-ne0.false own in rw template-first (rw (← c.total_of-total.ensures) (simp (← c.base_end.ensures, le-ltb _ _ c.if-section-base_end.false, ← c.bad_place-bad.ensures, ← own, ← c.fitting_refusal-refused.ensures, eq-eqb _ _ c.if-refused-ne0.false) (by-points c.args.template c.args.section.now c.points_refusal-by_points.result (c.points_refusal-by_points.ensures agree)))) in
     simp (decided, ne_eqb _ _ c.if-by_points-ne0.true)
 
 pub returns : goal.returns
 unfolding told as_template
 returns c =
-    let decided : as_template (template c) (section c) ≡ cond (eqb c.points_refusal-by_points.result.number 0) (read (values₃ (template c) (section c))) (refused_by c.points_refusal-by_points.result) = let own = c.disagreement-own.ensures in let agree = then-agreed _ _ _ (section c) _ c.fitting_refusal-refused.ensures c.if-refused-ne0.false own in rw template-first (rw (← c.total_of-total.ensures) (simp (← c.base_end.ensures, le-ltb _ _ c.if-section-base_end.false, ← c.bad_place-bad.ensures, ← own, ← c.fitting_refusal-refused.ensures, eq-eqb _ _ c.if-refused-ne0.false) (by-points (template c) (section c) c.points_refusal-by_points.result (c.points_refusal-by_points.ensures agree)))) in
+    let decided : as_template c.args.template c.args.section.now ≡ cond (eqb c.points_refusal-by_points.result.number 0) (read (values₃ c.args.template c.args.section.now)) (refused_by c.points_refusal-by_points.result) = let own = c.disagreement-own.ensures in let agree = then-agreed _ _ _ c.args.section.now _ c.fitting_refusal-refused.ensures c.if-refused-ne0.false own in rw template-first (rw (← c.total_of-total.ensures) (simp (← c.base_end.ensures, le-ltb _ _ c.if-section-base_end.false, ← c.bad_place-bad.ensures, ← own, ← c.fitting_refusal-refused.ensures, eq-eqb _ _ c.if-refused-ne0.false) (by-points c.args.template c.args.section.now c.points_refusal-by_points.result (c.points_refusal-by_points.ensures agree)))) in
     simp (c.of_section.ensures, decided, eq-eqb _ _ c.if-by_points-ne0.false)

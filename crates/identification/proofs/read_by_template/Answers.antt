@@ -36,7 +36,7 @@ returns-in-2 c =
 pub returns-in_default : goal.returns-in_default
 unfolding told by_template by_number
 returns-in_default c =
-    let other = c.in_default.rest in
+    let other = c.in_default.in_default-own.rest in
     simp (
       c.of.ensures,
       ne_eqb _ _ c.if-section-eq21.false,

@@ -20,4 +20,4 @@ returns c =
     ++ (plain (c.u8_at-5.ensures i)
     ∷ plain (c.u8_at-6.ensures i)
     ∷ template_in c.args.number c.args.calendar c.args.offset
-    (kept32 c.args.real-year c.ranges.real-year.sfits i)))
+    (kept32 c.args.real_year c.ranges.real_year.sfits i)))

@@ -12,7 +12,7 @@ pub returns-then-not-has_list : goal.returns-then-not-has_list
 unfolding agreed
 returns-then-not-has_list c =
     let h = c.has_list in
-    simp (← c.u8_at-width.ensures, ne_eqb _ _ c.if-width-eq0.false, ← h.ensures, not-true h.result c.if-not-has_list.true)
+    simp (← c.u8_at-width.ensures, ne_eqb _ _ c.if-width-eq0.false, ← h.ensures, c.if-not-has_list.true)
 
 pub returns : goal.returns
 unfolding agreed
@@ -22,6 +22,6 @@ returns c =
       ← c.u8_at-width.ensures,
       ne_eqb _ _ c.if-width-eq0.false,
       ← h.ensures,
-      not-false h.result c.if-not-has_list.false,
+      c.if-not-has_list.false,
       c.agrees_with_list.ensures,
     )

@@ -5,7 +5,7 @@ use Rattle.grid.proofs.agreement.missing_with.Goals as goal
 
 pub returns-then-not-missing : goal.returns-then-not-missing
 unfolding missing_with
-returns-then-not-missing c = let m = c.missing in simp (← m.ensures, not-true m.result c.if-not-missing.true)
+returns-then-not-missing c = let m = c.missing in simp (← m.ensures, c.if-not-missing.true)
 
 pub returns-then-not-missing-2 : goal.returns-then-not-missing-2
 unfolding missing_with
@@ -14,9 +14,9 @@ returns-then-not-missing-2 c =
     let n = c.missing-2 in
     simp (
       ← m.ensures,
-      not-false m.result c.if-not-missing.false,
+      c.if-not-missing.false,
       ← n.ensures,
-      not-true n.result c.if-not-missing-2.true,
+      c.if-not-missing-2.true,
     )
 
 pub returns : goal.returns
@@ -26,8 +26,8 @@ returns c =
     let n = c.missing-2 in
     simp (
       ← m.ensures,
-      not-false m.result c.if-not-missing.false,
+      c.if-not-missing.false,
       ← n.ensures,
-      not-false n.result c.if-not-missing-2.false,
+      c.if-not-missing-2.false,
       ← c.missing-3.ensures,
     )

@@ -17,7 +17,7 @@ returns-in-4 c h = rw c.in-4.is c.u32_at.ensures
 
 pub returns-in_default : goal.returns-in_default
 returns-in_default c h =
-    let other = c.in_default.rest in
+    let other = c.in_default.in_default-own.rest in
     let none = no-list _ other.0.0.1 other.0.1 other.1 in
     let z : ◌≡◌ {A = ℕ} 0 1 = cc in
     absurd (omega arith)

@@ -16,4 +16,4 @@ unfolding has_list
 returns-in-4 c = rw c.in-4.is
 
 pub returns-in_default : goal.returns-in_default
-returns-in_default c = let other = c.in_default.rest in sym (no-list _ other.0.0.1 other.0.1 other.1)
+returns-in_default c = let other = c.in_default.in_default-own.rest in sym (no-list _ other.0.0.1 other.0.1 other.1)

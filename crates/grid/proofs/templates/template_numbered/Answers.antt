@@ -24,4 +24,4 @@ unfolding template_numbered
 returns-in-2 c = rw c.in-2.is
 
 pub returns-in_default : goal.returns-in_default
-returns-in_default c = let other = c.in_default.rest in sym (last _ other.0.0.1 other.0.1 other.1)
+returns-in_default c = let other = c.in_default.in_default-own.rest in sym (last _ other.0.0.1 other.0.1 other.1)

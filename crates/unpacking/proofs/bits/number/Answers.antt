@@ -23,7 +23,7 @@ overflow_mul-value c =
     omega (arith, h, l.invariant.first)
 
 pub bit-requires : goal.bit-requires
-bit-requires c κs = omega arith
+bit-requires c = omega arith
 
 pub overflow_add-value : goal.overflow_add-value
 overflow_add-value c =

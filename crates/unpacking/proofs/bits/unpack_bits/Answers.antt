@@ -23,8 +23,8 @@ pub loop-i-init : goal.loop-i-init
 loop-i-init c = record { within = omega arith; long = refl; place = omega arith; inside = omega arith; written = λ j h. absurd (omega arith) }
 
 pub number-f-requires : goal.number-f-requires
-number-f-requires c κs =
-    (omega arith, omega (arith, mul-le-mul_left c.loop-i.i c.if-bits-gt32.false, c.well-formed), omega arith)
+number-f-requires c =
+    (omega arith, omega (arith, mul-le-mul_left c.loop-i.i c.if-bits-gt32.false, c.well_formed), omega arith)
 
 pub offset_bounds-row-i : goal.offset_bounds-row-i
 offset_bounds-row-i c = omega arith

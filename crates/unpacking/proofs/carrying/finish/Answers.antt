@@ -12,7 +12,7 @@ pub loop-run-init : goal.loop-run-init
 loop-run-init c = (c.requires.0, refl)
 
 pub step-run-requires : goal.step-run-requires
-step-run-requires c κs =
+step-run-requires c =
     (c.loop-run.invariant.0, c.loop-run-test.true, c.requires.1)
 
 pub loop-run-smaller : goal.loop-run-smaller

@@ -21,7 +21,7 @@ overflow_mul-held c =
     record { fits = omega arith }
 
 pub octet-requires : goal.octet-requires
-octet-requires c κs = tt
+octet-requires c = tt
 
 pub overflow_cast-held : goal.overflow_cast-held
 overflow_cast-held c = omega (arith, c.octet.type_inv)
@@ -37,7 +37,7 @@ overflow_add-left c = omega arith
 
 pub overflow_add-taken : goal.overflow_add-taken
 overflow_add-taken c =
-    omega (arith, c.loop-left.invariant.0.place, mul-le-mul_left c.args.run.written c.requires.2, c.well-formed, c.requires.1)
+    omega (arith, c.loop-left.invariant.0.place, mul-le-mul_left c.args.run.written c.requires.2, c.well_formed, c.requires.1)
 
 pub loop-left-smaller : goal.loop-left-smaller
 loop-left-smaller c = omega arith
@@ -49,7 +49,7 @@ loop-left-preserved c =
     (octet-in a.bits a.packed.now a.run.written l.taken l.held l.left c.octet.result l.invariant.0 c.octet.ensures (omega (arith, c.octet.type_inv)), omega arith)
 
 pub power-weight-requires : goal.power-weight-requires
-power-weight-requires c κs = omega arith
+power-weight-requires c = omega arith
 
 pub nonzero_div-number : goal.nonzero_div-number
 nonzero_div-number c = weight-positive _ _ _ c.loop-left.invariant.0 c.loop-left-test.false c.power-weight.result c.power-weight.ensures

@@ -10,7 +10,7 @@ use Rattle.unpacking.proofs.Carried.{octet-in, room, weight-positive, number_fit
 use Rattle.unpacking.proofs.carrying.step.Given as goal
 
 abbrev pub invariant-loop-left : goal.invariant-loop-left
-invariant-loop-left l = Holds l.bits l.packed (record { l.taken = l.taken; written = l.run.written; l.held = l.held; l.left = l.left }) × (l.left < l.bits + 8)
+invariant-loop-left l = Holds l.bits l.packed (record { taken = l.taken; written = l.run.written; held = l.held; left = l.left }) × (l.left < l.bits + 8)
 
 abbrev pub decreases-loop-left : goal.decreases-loop-left
 decreases-loop-left l = l.bits - l.left

@@ -12,7 +12,7 @@ returns-then-bits-gt32 c =
     sym (wide a.bits a.packed.now a.row.now c.if-bits-gt32.true)
 
 pub finish-requires : goal.finish-requires
-finish-requires c κs =
+finish-requires c =
     let a = c.args in
     (begins a.bits a.packed.now a.row.now, c.if-bits-gt32.false)
 

@@ -17,7 +17,7 @@ loop-run-init c =
     record { stands = c.requires.0; long = refl; ahead = c.requires.1.ahead }
 
 pub number-run-requires : goal.number-run-requires
-number-run-requires c κs =
+number-run-requires c =
     let p = c.requires.1 in
     let w = c.loop-run.run.written in
     let one : w + 1 ≤ c.args.end = omega (arith, c.loop-run-test.true) in

@@ -13,9 +13,6 @@ use Rattle.unpacking.proofs.Carried.{at-octet, begins}
 use Rattle.unpacking.proofs.eights.groups.Invariants.{Going}
 use Rattle.unpacking.proofs.eights.groups.Goals as goal
 
-abbrev start : goal.At-loop-row → goal.Start
-start c = c
-
 pub loop-row-init : goal.loop-row-init
 loop-row-init c =
     let a = c.args in
@@ -29,40 +26,40 @@ overflow_sub-packed c = c.loop-row.invariant.there
 
 pub overflow_add-run : goal.overflow_add-run
 overflow_add-run c =
-    let room : c.loop-row.run.written + (start c).args.per ≤ length c.loop-row.row = omega (arith, c.loop-row-test.true, c.loop-row.invariant.stands.within) in
-    omega (arith, room, c.loop-row.invariant.long, (start c).good)
+    let room : c.loop-row.run.written + c.args.per ≤ length c.loop-row.row = omega (arith, c.loop-row-test.true, c.loop-row.invariant.stands.within) in
+    omega (arith, room, c.loop-row.invariant.long, c.good)
 
 pub group-requires : goal.group-requires
-group-requires c κs =
-    let room : c.loop-row.run.written + (start c).args.per ≤ length c.loop-row.row = omega (arith, c.loop-row-test.true, c.loop-row.invariant.stands.within) in
-    let octets : c.loop-row.run.taken + (start c).args.octets ≤ length (start c).args.packed.now = let a = (start c).args in omega (arith, leb-true a.octets (length a.packed.now - c.loop-row.run.taken) c.if-octets-packed.true, c.loop-row.invariant.there) in
-    let whole : (c.loop-row.run.written + (start c).args.per) * (start c).args.width ≡ 8 * (c.loop-row.run.taken + (start c).args.octets) = let s = start c in omega (arith, add-mul c.loop-row.run.written s.args.per s.args.width, c.loop-row.invariant.stands.holds.place, c.loop-row.invariant.nothing, s.pre.whole) in
-    let p = (start c).requires in (
+group-requires c =
+    let room : c.loop-row.run.written + c.args.per ≤ length c.loop-row.row = omega (arith, c.loop-row-test.true, c.loop-row.invariant.stands.within) in
+    let octets : c.loop-row.run.taken + c.args.octets ≤ length c.args.packed.now = let a = c.args in omega (arith, leb-true a.octets (length a.packed.now - c.loop-row.run.taken) c.if-octets-packed.true, c.loop-row.invariant.there) in
+    let whole : (c.loop-row.run.written + c.args.per) * c.args.width ≡ 8 * (c.loop-row.run.taken + c.args.octets) = omega (arith, add-mul c.loop-row.run.written c.args.per c.args.width, c.loop-row.invariant.stands.holds.place, c.loop-row.invariant.nothing, c.requires.whole) in
+    let p = c.requires in (
       c.loop-row.invariant.stands,
       record { narrow = omega (arith, p.same, p.narrow); ahead = omega arith; room = room; there = omega (arith, whole, octets) },
     )
 
 pub overflow_add-run-in-loop-row : goal.overflow_add-run-in-loop-row
 overflow_add-run-in-loop-row c =
-    let octets : c.loop-row.run.taken + (start c).args.octets ≤ length (start c).args.packed.now = let a = (start c).args in omega (arith, leb-true a.octets (length a.packed.now - c.loop-row.run.taken) c.if-octets-packed.true, c.loop-row.invariant.there) in
-    omega (arith, octets, (start c).good)
+    let octets : c.loop-row.run.taken + c.args.octets ≤ length c.args.packed.now = let a = c.args in omega (arith, leb-true a.octets (length a.packed.now - c.loop-row.run.taken) c.if-octets-packed.true, c.loop-row.invariant.there) in
+    omega (arith, octets, c.good)
 
 pub overflow_add-run-in-loop-row-2 : goal.overflow_add-run-in-loop-row-2
 overflow_add-run-in-loop-row-2 c =
-    let room : c.loop-row.run.written + (start c).args.per ≤ length c.loop-row.row = omega (arith, c.loop-row-test.true, c.loop-row.invariant.stands.within) in
-    omega (arith, room, c.loop-row.invariant.long, (start c).well-formed)
+    let room : c.loop-row.run.written + c.args.per ≤ length c.loop-row.row = omega (arith, c.loop-row-test.true, c.loop-row.invariant.stands.within) in
+    omega (arith, room, c.loop-row.invariant.long, c.well_formed)
 
 pub loop-row-smaller : goal.loop-row-smaller
 loop-row-smaller c =
-    let room : c.loop-row.run.written + (start c).args.per ≤ length c.loop-row.row = omega (arith, c.loop-row-test.true, c.loop-row.invariant.stands.within) in
-    omega (arith, room, c.loop-row.invariant.long, (start c).requires.some)
+    let room : c.loop-row.run.written + c.args.per ≤ length c.loop-row.row = omega (arith, c.loop-row-test.true, c.loop-row.invariant.stands.within) in
+    omega (arith, room, c.loop-row.invariant.long, c.requires.some)
 
 pub loop-row-preserved : goal.loop-row-preserved
 loop-row-preserved c =
-    let room : c.loop-row.run.written + (start c).args.per ≤ length c.loop-row.row = omega (arith, c.loop-row-test.true, c.loop-row.invariant.stands.within) in
-    let octets : c.loop-row.run.taken + (start c).args.octets ≤ length (start c).args.packed.now = let a = (start c).args in omega (arith, leb-true a.octets (length a.packed.now - c.loop-row.run.taken) c.if-octets-packed.true, c.loop-row.invariant.there) in
-    let whole : (c.loop-row.run.written + (start c).args.per) * (start c).args.width ≡ 8 * (c.loop-row.run.taken + (start c).args.octets) = let s = start c in omega (arith, add-mul c.loop-row.run.written s.args.per s.args.width, c.loop-row.invariant.stands.holds.place, c.loop-row.invariant.nothing, s.pre.whole) in
-    let a = (start c).args in
+    let room : c.loop-row.run.written + c.args.per ≤ length c.loop-row.row = omega (arith, c.loop-row-test.true, c.loop-row.invariant.stands.within) in
+    let octets : c.loop-row.run.taken + c.args.octets ≤ length c.args.packed.now = let a = c.args in omega (arith, leb-true a.octets (length a.packed.now - c.loop-row.run.taken) c.if-octets-packed.true, c.loop-row.invariant.there) in
+    let whole : (c.loop-row.run.written + c.args.per) * c.args.width ≡ 8 * (c.loop-row.run.taken + c.args.octets) = omega (arith, add-mul c.loop-row.run.written c.args.per c.args.width, c.loop-row.invariant.stands.holds.place, c.loop-row.invariant.nothing, c.requires.whole) in
+    let a = c.args in
     let r = c.loop-row.run in
     record {
       stands = at-octet a.width a.packed.now _ (r.written + a.per) (r.taken + a.octets) c.group.ensures (omega (arith, room, c.group.auto)) (whole);
@@ -76,7 +73,7 @@ shape_of-row-else-octets-packed c = c.loop-row.invariant.long
 
 pub returns-else-octets-packed : goal.returns-else-octets-packed
 returns-else-octets-packed c =
-    let by_bits : Stands (start c).args.bits (start c).args.packed.now c.loop-row.row c.loop-row.run = subst (λ (b : ℕ). Stands b (start c).args.packed.now c.loop-row.row c.loop-row.run) (start c).requires.same c.loop-row.invariant.stands in
+    let by_bits : Stands c.args.bits c.args.packed.now c.loop-row.row c.loop-row.run = subst (λ (b : ℕ). Stands b c.args.packed.now c.loop-row.row c.loop-row.run) c.requires.same c.loop-row.invariant.stands in
     by_bits
 
 pub shape_of-row-after-loop-row : goal.shape_of-row-after-loop-row
@@ -84,5 +81,5 @@ shape_of-row-after-loop-row c = c.loop-row.invariant.long
 
 pub returns-after-loop-row : goal.returns-after-loop-row
 returns-after-loop-row c =
-    let by_bits : Stands (start c).args.bits (start c).args.packed.now c.loop-row.row c.loop-row.run = subst (λ (b : ℕ). Stands b (start c).args.packed.now c.loop-row.row c.loop-row.run) (start c).requires.same c.loop-row.invariant.stands in
+    let by_bits : Stands c.args.bits c.args.packed.now c.loop-row.row c.loop-row.run = subst (λ (b : ℕ). Stands b c.args.packed.now c.loop-row.row c.loop-row.run) c.requires.same c.loop-row.invariant.stands in
     by_bits

@@ -11,80 +11,76 @@ use Rattle.unpacking.proofs.Carried.{weight-positive, number_fits, number-out}
 use Rattle.unpacking.proofs.Full.{still-ready, Full, full, eight-powers}
 use Rattle.unpacking.proofs.eights.number.Goals as goal
 
-abbrev start : goal.After-fill-full → goal.Start
-start c = c
-
 pub fill-two-requires : goal.fill-two-requires
-fill-two-requires c κs = still-ready c.requires.2 c.fill-one.ensures
+fill-two-requires c = still-ready c.requires.2 c.fill-one.ensures
 
 pub fill-three-requires : goal.fill-three-requires
-fill-three-requires c κs = still-ready (fill-requires-2 c κs) c.fill-two.ensures
+fill-three-requires c = still-ready (fill-requires-2 c κs) c.fill-two.ensures
 
 pub fill-full-requires : goal.fill-full-requires
-fill-full-requires c κs = still-ready (fill-requires-3 c κs) c.fill-three.ensures
+fill-full-requires c = still-ready (fill-requires-3 c κs) c.fill-three.ensures
 
 pub overflow_sub-left : goal.overflow_sub-left
 overflow_sub-left c =
-    let bits-held : Full (start c).args.bits (start c).args.packed.now (start c).args.run c.fill-full.result = let s = start c in full s.pre.2.narrow s.pre.0.few c.fill-one.ensures c.fill-two.ensures c.fill-three.ensures c.fill-full.ensures in
+    let bits-held : Full c.args.bits c.args.packed.now c.args.run c.fill-full.result = full c.requires.2.narrow c.requires.0.few c.fill-one.ensures c.fill-two.ensures c.fill-three.ensures c.fill-full.ensures in
     (bits-held).enough
 
 pub overflow_cast-weight : goal.overflow_cast-weight
 overflow_cast-weight c =
-    let bits-held : Full (start c).args.bits (start c).args.packed.now (start c).args.run c.fill-full.result = let s = start c in full s.pre.2.narrow s.pre.0.few c.fill-one.ensures c.fill-two.ensures c.fill-three.ensures c.fill-full.ensures in
-    let under-eight : c.fill-full.result.left - (start c).args.bits < 8 = omega (arith, (bits-held).few) in
+    let bits-held : Full c.args.bits c.args.packed.now c.args.run c.fill-full.result = full c.requires.2.narrow c.requires.0.few c.fill-one.ensures c.fill-two.ensures c.fill-three.ensures c.fill-full.ensures in
+    let under-eight : c.fill-full.result.left - c.args.bits < 8 = omega (arith, (bits-held).few) in
     omega (arith, under-eight)
 
 pub offset_bounds-left : goal.offset_bounds-left
 offset_bounds-left c =
-    let bits-held : Full (start c).args.bits (start c).args.packed.now (start c).args.run c.fill-full.result = let s = start c in full s.pre.2.narrow s.pre.0.few c.fill-one.ensures c.fill-two.ensures c.fill-three.ensures c.fill-full.ensures in
-    let under-eight : c.fill-full.result.left - (start c).args.bits < 8 = omega (arith, (bits-held).few) in
+    let bits-held : Full c.args.bits c.args.packed.now c.args.run c.fill-full.result = full c.requires.2.narrow c.requires.0.few c.fill-one.ensures c.fill-two.ensures c.fill-three.ensures c.fill-full.ensures in
+    let under-eight : c.fill-full.result.left - c.args.bits < 8 = omega (arith, (bits-held).few) in
     omega (arith, under-eight)
 
 pub array-read-weight : goal.array-read-weight
 array-read-weight c =
-    let bits-held : Full (start c).args.bits (start c).args.packed.now (start c).args.run c.fill-full.result = let s = start c in full s.pre.2.narrow s.pre.0.few c.fill-one.ensures c.fill-two.ensures c.fill-three.ensures c.fill-full.ensures in
-    let under-eight : c.fill-full.result.left - (start c).args.bits < 8 = omega (arith, (bits-held).few) in
+    let bits-held : Full c.args.bits c.args.packed.now c.args.run c.fill-full.result = full c.requires.2.narrow c.requires.0.few c.fill-one.ensures c.fill-two.ensures c.fill-three.ensures c.fill-full.ensures in
+    let under-eight : c.fill-full.result.left - c.args.bits < 8 = omega (arith, (bits-held).few) in
     under-eight
 
 pub nonzero_div-value : goal.nonzero_div-value
 nonzero_div-value c =
-    let bits-held : Full (start c).args.bits (start c).args.packed.now (start c).args.run c.fill-full.result = let s = start c in full s.pre.2.narrow s.pre.0.few c.fill-one.ensures c.fill-two.ensures c.fill-three.ensures c.fill-full.ensures in
-    let under-eight : c.fill-full.result.left - (start c).args.bits < 8 = omega (arith, (bits-held).few) in
-    let weight : get_or (1 ∷ 2 ∷ 4 ∷ 8 ∷ 16 ∷ 32 ∷ 64 ∷ 128 ∷ []) (c.fill-full.result.left - (start c).args.bits) 0 ≡ 2 ^ (c.fill-full.result.left - (start c).args.bits) = eight-powers _ (under-eight) in
+    let bits-held : Full c.args.bits c.args.packed.now c.args.run c.fill-full.result = full c.requires.2.narrow c.requires.0.few c.fill-one.ensures c.fill-two.ensures c.fill-three.ensures c.fill-full.ensures in
+    let under-eight : c.fill-full.result.left - c.args.bits < 8 = omega (arith, (bits-held).few) in
+    let weight : get_or (1 ∷ 2 ∷ 4 ∷ 8 ∷ 16 ∷ 32 ∷ 64 ∷ 128 ∷ []) (c.fill-full.result.left - c.args.bits) 0 ≡ 2 ^ (c.fill-full.result.left - c.args.bits) = eight-powers _ (under-eight) in
     let f = bits-held in
     weight-positive _ _ _ f.holds f.enough _ (weight)
 
 pub overflow_cast-row : goal.overflow_cast-row
 overflow_cast-row c =
-    let bits-held : Full (start c).args.bits (start c).args.packed.now (start c).args.run c.fill-full.result = let s = start c in full s.pre.2.narrow s.pre.0.few c.fill-one.ensures c.fill-two.ensures c.fill-three.ensures c.fill-full.ensures in
-    let under-eight : c.fill-full.result.left - (start c).args.bits < 8 = omega (arith, (bits-held).few) in
-    let weight : get_or (1 ∷ 2 ∷ 4 ∷ 8 ∷ 16 ∷ 32 ∷ 64 ∷ 128 ∷ []) (c.fill-full.result.left - (start c).args.bits) 0 ≡ 2 ^ (c.fill-full.result.left - (start c).args.bits) = eight-powers _ (under-eight) in
+    let bits-held : Full c.args.bits c.args.packed.now c.args.run c.fill-full.result = full c.requires.2.narrow c.requires.0.few c.fill-one.ensures c.fill-two.ensures c.fill-three.ensures c.fill-full.ensures in
+    let under-eight : c.fill-full.result.left - c.args.bits < 8 = omega (arith, (bits-held).few) in
+    let weight : get_or (1 ∷ 2 ∷ 4 ∷ 8 ∷ 16 ∷ 32 ∷ 64 ∷ 128 ∷ []) (c.fill-full.result.left - c.args.bits) 0 ≡ 2 ^ (c.fill-full.result.left - c.args.bits) = eight-powers _ (under-eight) in
     let f = bits-held in
-    record { fits = number_fits _ _ _ f.holds f.enough _ (weight) (start c).requires.2.narrow }
+    record { fits = number_fits _ _ _ f.holds f.enough _ (weight) c.requires.2.narrow }
 
 pub offset_bounds-row-i : goal.offset_bounds-row-i
 offset_bounds-row-i c =
-    let bits-held : Full (start c).args.bits (start c).args.packed.now (start c).args.run c.fill-full.result = let s = start c in full s.pre.2.narrow s.pre.0.few c.fill-one.ensures c.fill-two.ensures c.fill-three.ensures c.fill-full.ensures in
-    let in_row : c.fill-full.result.written < length (start c).args.row.now = omega (arith, (bits-held).same, (start c).requires.1) in
-    omega (arith, in_row, (start c).well-formed)
+    let bits-held : Full c.args.bits c.args.packed.now c.args.run c.fill-full.result = full c.requires.2.narrow c.requires.0.few c.fill-one.ensures c.fill-two.ensures c.fill-three.ensures c.fill-full.ensures in
+    let in_row : c.fill-full.result.written < length c.args.row.now = omega (arith, (bits-held).same, c.requires.1) in
+    omega (arith, in_row, c.well_formed)
 
 pub overflow_add-written : goal.overflow_add-written
 overflow_add-written c =
-    let bits-held : Full (start c).args.bits (start c).args.packed.now (start c).args.run c.fill-full.result = let s = start c in full s.pre.2.narrow s.pre.0.few c.fill-one.ensures c.fill-two.ensures c.fill-three.ensures c.fill-full.ensures in
-    let in_row : c.fill-full.result.written < length (start c).args.row.now = omega (arith, (bits-held).same, (start c).requires.1) in
-    omega (arith, in_row, (start c).well-formed)
+    let bits-held : Full c.args.bits c.args.packed.now c.args.run c.fill-full.result = full c.requires.2.narrow c.requires.0.few c.fill-one.ensures c.fill-two.ensures c.fill-three.ensures c.fill-full.ensures in
+    let in_row : c.fill-full.result.written < length c.args.row.now = omega (arith, (bits-held).same, c.requires.1) in
+    omega (arith, in_row, c.well_formed)
 
 pub returns : goal.returns
 returns c =
-    let bits-held : Full (start c).args.bits (start c).args.packed.now (start c).args.run c.fill-full.result = let s = start c in full s.pre.2.narrow s.pre.0.few c.fill-one.ensures c.fill-two.ensures c.fill-three.ensures c.fill-full.ensures in
-    let under-eight : c.fill-full.result.left - (start c).args.bits < 8 = omega (arith, (bits-held).few) in
-    let weight : get_or (1 ∷ 2 ∷ 4 ∷ 8 ∷ 16 ∷ 32 ∷ 64 ∷ 128 ∷ []) (c.fill-full.result.left - (start c).args.bits) 0 ≡ 2 ^ (c.fill-full.result.left - (start c).args.bits) = eight-powers _ (under-eight) in
-    let in_row : c.fill-full.result.written < length (start c).args.row.now = omega (arith, (bits-held).same, (start c).requires.1) in
-    let s = start c in
-    let xs = s.args.packed.now in
-    let row = s.args.row.now in
+    let bits-held : Full c.args.bits c.args.packed.now c.args.run c.fill-full.result = full c.requires.2.narrow c.requires.0.few c.fill-one.ensures c.fill-two.ensures c.fill-three.ensures c.fill-full.ensures in
+    let under-eight : c.fill-full.result.left - c.args.bits < 8 = omega (arith, (bits-held).few) in
+    let weight : get_or (1 ∷ 2 ∷ 4 ∷ 8 ∷ 16 ∷ 32 ∷ 64 ∷ 128 ∷ []) (c.fill-full.result.left - c.args.bits) 0 ≡ 2 ^ (c.fill-full.result.left - c.args.bits) = eight-powers _ (under-eight) in
+    let in_row : c.fill-full.result.written < length c.args.row.now = omega (arith, (bits-held).same, c.requires.1) in
+    let xs = c.args.packed.now in
+    let row = c.args.row.now in
     let f = bits-held in
-    let first = subst⁻¹ (First s.args.bits xs row) f.same s.pre.0.first in (
+    let first = subst⁻¹ (First c.args.bits xs row) f.same c.requires.0.first in (
       number-out _ _ _ f.holds f.enough _ (weight) row first (in_row) f.few,
       ap (λ (n : ℕ). n + 1) f.same,
     )
