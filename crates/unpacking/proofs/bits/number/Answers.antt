@@ -11,6 +11,7 @@ use Rattle.unpacking.specs.Packed.{bits_from, bit_at}
 use Rattle.unpacking.proofs.Runs.{bits-next, bits-under}
 use Rattle.unpacking.proofs.bits.number.Invariants.{Going}
 use Rattle.unpacking.proofs.bits.number.Goals as goal
+use Rattle.unpacking.proofs.bits.number.Goals.{then-k-eq7, else-k-eq7}
 
 pub loop-w-init : goal.loop-w-init
 unfolding bits_from
@@ -50,8 +51,8 @@ loop-w-preserved c =
     record {
       turns = omega arith;
       first = grown;
-      place = ⊎_elim (λ w. omega arith) (λ w. omega arith) c.if-k-eq7.branch;
-      inside = ⊎_elim (λ w. omega arith) (λ w. omega (arith, lt_of_le-ne (le_of_suc-le-suc c.loop-w.invariant.inside) w.0.left)) c.if-k-eq7.branch;
+      place = elim c.if-k-eq7.branch [ then-k-eq7 w ↦ omega arith | else-k-eq7 w ↦ omega arith ];
+      inside = elim c.if-k-eq7.branch [ then-k-eq7 w ↦ omega arith | else-k-eq7 w ↦ omega arith ];
     }
 
 pub returns : goal.returns

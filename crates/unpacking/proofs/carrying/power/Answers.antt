@@ -13,7 +13,7 @@ seven l h i a b c d = omega arith
 
 pub returns-in_default : goal.returns-in_default
 returns-in_default c =
-    let o = c.in_default.rest in
+    let o = c.in_default.in_default-own.rest in
     let l = c.args.left in
     let e : l ≡ 7 =
     seven l c.requires (above-two l o.0.0.0.0.0.0.1 o.0.0.0.0.0.1 o.0.0.0.0.1) o.0.0.0.1 o.0.0.1 o.0.1 o.1 in

@@ -55,7 +55,7 @@ pub nonzero_div-number : goal.nonzero_div-number
 nonzero_div-number c = weight-positive _ _ _ c.loop-left.invariant.0 c.loop-left-test.false c.power-weight.result c.power-weight.ensures
 
 pub nonzero_rem-rest : goal.nonzero_rem-rest
-nonzero_rem-rest c = div-number c
+nonzero_rem-rest c = weight-positive _ _ _ c.loop-left.invariant.0 c.loop-left-test.false c.power-weight.result c.power-weight.ensures
 
 pub returns : goal.returns
 returns c =

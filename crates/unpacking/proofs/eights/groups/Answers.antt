@@ -27,12 +27,12 @@ overflow_sub-packed c = c.loop-row.invariant.there
 pub overflow_add-run : goal.overflow_add-run
 overflow_add-run c =
     let room : c.loop-row.run.written + c.args.per ≤ length c.loop-row.row = omega (arith, c.loop-row-test.true, c.loop-row.invariant.stands.within) in
-    omega (arith, room, c.loop-row.invariant.long, c.good)
+    omega (arith, room, c.loop-row.invariant.long, c.well_formed)
 
 pub group-requires : goal.group-requires
 group-requires c =
     let room : c.loop-row.run.written + c.args.per ≤ length c.loop-row.row = omega (arith, c.loop-row-test.true, c.loop-row.invariant.stands.within) in
-    let octets : c.loop-row.run.taken + c.args.octets ≤ length c.args.packed.now = let a = c.args in omega (arith, leb-true a.octets (length a.packed.now - c.loop-row.run.taken) c.if-octets-packed.true, c.loop-row.invariant.there) in
+    let octets : c.loop-row.run.taken + c.args.octets ≤ length c.args.packed.now = let a = c.args in omega (arith, c.if-octets-packed.true, c.loop-row.invariant.there) in
     let whole : (c.loop-row.run.written + c.args.per) * c.args.width ≡ 8 * (c.loop-row.run.taken + c.args.octets) = omega (arith, add-mul c.loop-row.run.written c.args.per c.args.width, c.loop-row.invariant.stands.holds.place, c.loop-row.invariant.nothing, c.requires.whole) in
     let p = c.requires in (
       c.loop-row.invariant.stands,
@@ -41,8 +41,8 @@ group-requires c =
 
 pub overflow_add-run-in-loop-row : goal.overflow_add-run-in-loop-row
 overflow_add-run-in-loop-row c =
-    let octets : c.loop-row.run.taken + c.args.octets ≤ length c.args.packed.now = let a = c.args in omega (arith, leb-true a.octets (length a.packed.now - c.loop-row.run.taken) c.if-octets-packed.true, c.loop-row.invariant.there) in
-    omega (arith, octets, c.good)
+    let octets : c.loop-row.run.taken + c.args.octets ≤ length c.args.packed.now = let a = c.args in omega (arith, c.if-octets-packed.true, c.loop-row.invariant.there) in
+    omega (arith, octets, c.well_formed)
 
 pub overflow_add-run-in-loop-row-2 : goal.overflow_add-run-in-loop-row-2
 overflow_add-run-in-loop-row-2 c =
@@ -57,7 +57,7 @@ loop-row-smaller c =
 pub loop-row-preserved : goal.loop-row-preserved
 loop-row-preserved c =
     let room : c.loop-row.run.written + c.args.per ≤ length c.loop-row.row = omega (arith, c.loop-row-test.true, c.loop-row.invariant.stands.within) in
-    let octets : c.loop-row.run.taken + c.args.octets ≤ length c.args.packed.now = let a = c.args in omega (arith, leb-true a.octets (length a.packed.now - c.loop-row.run.taken) c.if-octets-packed.true, c.loop-row.invariant.there) in
+    let octets : c.loop-row.run.taken + c.args.octets ≤ length c.args.packed.now = let a = c.args in omega (arith, c.if-octets-packed.true, c.loop-row.invariant.there) in
     let whole : (c.loop-row.run.written + c.args.per) * c.args.width ≡ 8 * (c.loop-row.run.taken + c.args.octets) = omega (arith, add-mul c.loop-row.run.written c.args.per c.args.width, c.loop-row.invariant.stands.holds.place, c.loop-row.invariant.nothing, c.requires.whole) in
     let a = c.args in
     let r = c.loop-row.run in

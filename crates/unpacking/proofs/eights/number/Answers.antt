@@ -15,10 +15,10 @@ pub fill-two-requires : goal.fill-two-requires
 fill-two-requires c = still-ready c.requires.2 c.fill-one.ensures
 
 pub fill-three-requires : goal.fill-three-requires
-fill-three-requires c = still-ready (fill-requires-2 c κs) c.fill-two.ensures
+fill-three-requires c = still-ready (still-ready c.requires.2 c.fill-one.ensures) c.fill-two.ensures
 
 pub fill-full-requires : goal.fill-full-requires
-fill-full-requires c = still-ready (fill-requires-3 c κs) c.fill-three.ensures
+fill-full-requires c = still-ready (still-ready (still-ready c.requires.2 c.fill-one.ensures) c.fill-two.ensures) c.fill-three.ensures
 
 pub overflow_sub-left : goal.overflow_sub-left
 overflow_sub-left c =
@@ -37,8 +37,8 @@ offset_bounds-left c =
     let under-eight : c.fill-full.result.left - c.args.bits < 8 = omega (arith, (bits-held).few) in
     omega (arith, under-eight)
 
-pub array-read-weight : goal.array-read-weight
-array-read-weight c =
+pub bounds-left : goal.bounds-left
+bounds-left c =
     let bits-held : Full c.args.bits c.args.packed.now c.args.run c.fill-full.result = full c.requires.2.narrow c.requires.0.few c.fill-one.ensures c.fill-two.ensures c.fill-three.ensures c.fill-full.ensures in
     let under-eight : c.fill-full.result.left - c.args.bits < 8 = omega (arith, (bits-held).few) in
     under-eight
@@ -86,4 +86,9 @@ returns c =
     )
 
 pub nonzero_rem-rest : goal.nonzero_rem-rest
-nonzero_rem-rest c = div_value c
+nonzero_rem-rest c =
+    let bits-held : Full c.args.bits c.args.packed.now c.args.run c.fill-full.result = full c.requires.2.narrow c.requires.0.few c.fill-one.ensures c.fill-two.ensures c.fill-three.ensures c.fill-full.ensures in
+    let under-eight : c.fill-full.result.left - c.args.bits < 8 = omega (arith, (bits-held).few) in
+    let weight : get_or (1 ∷ 2 ∷ 4 ∷ 8 ∷ 16 ∷ 32 ∷ 64 ∷ 128 ∷ []) (c.fill-full.result.left - c.args.bits) 0 ≡ 2 ^ (c.fill-full.result.left - c.args.bits) = eight-powers _ (under-eight) in
+    let f = bits-held in
+    weight-positive _ _ _ f.holds f.enough _ (weight)

@@ -16,5 +16,5 @@ pub returns : goal.returns
 returns c =
     let a = c.args in
     c.finish.ensures
-    ∙ (λ i. unpacked a.bits (c.widths-run.auto.1.1.0 i) (to_the_end 0 a.packed.now i))
+    ∙ (λ i. unpacked a.bits (c.widths-run.auto.row i) (to_the_end 0 a.packed.now i))
     ∙ sym (narrow a.bits a.packed.now a.row.now c.if-bits-gt32.false)
