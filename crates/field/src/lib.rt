@@ -1,4 +1,6 @@
 // A whole field: five lent sections in the order 1, 3, 4, 5, 7.
+#![tactic(auto)]
+
 ghost use Rattle.std.specs.Prelude.{◌≡◌};
 ghost use Rattle.layout.specs.Outcomes.{refusal_of};
 ghost use Rattle.packing.specs.Section5.{told₅};

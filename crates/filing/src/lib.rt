@@ -1,4 +1,6 @@
 // Filing: a field is read, and its card put to a slot of the shelf.
+#![tactic(auto)]
+
 ghost use Rattle.std.specs.Prelude.{◌≡◌};
 ghost use Rattle.identification.specs.Section1.{values_in};
 ghost use Rattle.filing.specs.Filing.{issue_of, stored_issue, card_of, foreign_calendar, after_put, filed_by, filed_of, refused_filing};

@@ -1,4 +1,6 @@
 // Sections 5 and 7: simple packing, and unpacking into a lent row.
+#![tactic(auto)]
+
 ghost use Rattle.std.specs.Prelude.{◌≡◌};
 ghost use Rattle.layout.specs.Fields.{after, values_of};
 ghost use Rattle.packing.specs.Section5.{outcome₅, as_simple, fields₅, values_in₅, told₅, refusal_in₅};

@@ -1,4 +1,6 @@
 // A shelf as octets, to be stored or sent to another trailer. Any octets are a shelf.
+#![tactic(auto)]
+
 ghost use Rattle.std.specs.Prelude.{◌≡◌};
 ghost use Rattle.octets.specs.Octets.{digits};
 ghost use Rattle.shelf.specs.Shelves.{slot_at};

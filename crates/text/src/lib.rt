@@ -1,5 +1,7 @@
 // Numbers, times and refusals as text, written into a lent buffer from index `at` on, as far as there is room. Each function answers the
 // index after what it wrote.
+#![tactic(auto)]
+
 ghost use Rattle.std.specs.Prelude.{◌≡◌, [], ◌∷◌, ◌++◌};
 ghost use Rattle.lent.specs.Written.{written, append};
 ghost use Rattle.text.specs.Text.{decimal, whole_number, time_text, refused_text};

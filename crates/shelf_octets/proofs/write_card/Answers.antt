@@ -1,0 +1,34 @@
+-- `write_card`: the year, the five octets of the time, the issue and the product's octets.
+-- Assumes nothing.
+use mathlib.Core.Path.{◌≡◌, sym, ap, ◌∙◌}
+use lib.ListN.{length}
+use borrow.Author.Rules.{rules}
+use mir.Syntax.{w32}
+use mir.ValLaws.{to_z-of_z}
+use Rattle.octets.specs.Octets.{part}
+use Rattle.octets.proofs.Free.{free}
+use Rattle.octets.proofs.Laws.{part-all}
+use Rattle.octets.proofs.Lists.{unmapped}
+use Rattle.lent.specs.Written.{append}
+use Rattle.lent.proofs.Written.{and_then}
+use Rattle.shelf_octets.specs.ShelfOctets.{octets_of_card}
+use Rattle.shelf_octets.proofs.write_card.Goals as goal
+
+pub slice_bounds-octets-end : goal.slice_bounds-octets-end
+slice_bounds-octets-end c =
+    let length-is : length c.args.card.product ≡ 27 = search (rules, unmapped) in
+    sym (length-is)
+
+pub returns : goal.returns
+unfolding octets_of_card
+returns c =
+    let length-is : length c.args.card.product ≡ 27 = search (rules, unmapped) in
+    let product : part c.args.card.product 1 27 ≡ c.args.card.product = rw (length-is) at (part-all c.args.card.product) in
+    and_then _ _ _ (rw (c.raw_year.ensures, to_z-of_z w32 _ (record { sfits = c.struct_told-1.given.0.1 })) at c.write_number-a.ensures)
+    (and_then _ _ _ c.octet-b.ensures
+    (and_then _ _ _ c.octet-c.ensures
+    (and_then _ _ _ c.octet-d.ensures
+    (and_then _ _ _ c.octet-e.ensures
+    (and_then _ _ _ c.octet-f.ensures
+    (and_then _ _ _ c.write_number-g.ensures
+    (c.octets.ensures ∙ ap (append _) (sym product))))))))
