@@ -16,16 +16,16 @@ use Rattle.message.proofs.fields_refusal.Goals as goal
 pub loop-k-init : goal.loop-k-init
 loop-k-init c =
     let a = c.args in
-    let all : a.t2.count - 0 ≡ a.t2.count = omega arith in (
+    let all : a.cut.count - 0 ≡ a.cut.count = omega arith in (
       rw c.no_sections-before.ensures (record { one = λ h. absurd (omega arith); three = λ h. absurd (omega arith) }),
-      ap (λ (n : ℕ). fields_read a.t2 (map (shown_in a.message.now) (take n a.t2.fields))) all,
+      ap (λ (n : ℕ). fields_read a.cut (map (shown_in a.message.now) (take n a.cut.fields))) all,
     )
 
 pub returns-then-cut-k : goal.returns-then-cut-k
 unfolding fields_read
 returns-then-cut-k c =
     let a = c.args in
-    rw c.none.ensures (sym (ap (fields_read a.t2) (none_left a.message.now a.t2 c.loop-k.k c.if-cut-k.true)) ∙ c.loop-k.invariant.1)
+    rw c.none.ensures (sym (ap (fields_read a.cut) (none_left a.message.now a.cut c.loop-k.k c.if-cut-k.true)) ∙ c.loop-k.invariant.1)
 
 pub returns-then-refusal-ne0 : goal.returns-then-refusal-ne0
 returns-then-refusal-ne0 c =
