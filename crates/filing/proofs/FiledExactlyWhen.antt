@@ -78,6 +78,7 @@ module _ (slot : ℕ) (issue : Issue) (s1 s3 s4 s5 s7 : List ℕ) where
   back f = by_field (field_outcome s1 s3 s4 s5 s7) refl ((accepted-exactly-when s1 s3 s4 s5 s7).1 f.field)
     where
       by_field : (o : FieldOutcome) → field_outcome s1 s3 s4 s5 s7 ≡ o → AcceptedField o → (card : Card) × (cond (ltb 63 slot) (refused_filing 16 0 0) (of_field (field_outcome s1 s3 s4 s5 s7) (issue_of issue) s4) ≡ accepted card)
+      by_field (refused_field _ _ _) r a = elim a [ ]
       by_field (read_field one three four five) r a =
           let k = card-octets s1 one (issue_of issue) s4 (subst (FirstIs s1) r (field-first s1 s3 s4 s5 s7)) in
           let g = f.gregorian in

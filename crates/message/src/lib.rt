@@ -1,4 +1,6 @@
 // Whole messages: one walk over the sections of a lent message, and its fields' sections as parts of it. Nothing is copied.
+#![tactic(auto)]
+
 ghost use Rattle.std.specs.Prelude.{◌≡◌, drop};
 ghost use Rattle.cutting.specs.Cuts.{cut_of};
 ghost use Rattle.cutting.specs.Sections.{section_step};

@@ -15,8 +15,7 @@ pub mod shelves;
 // 18, of no section and no place.
 pub(crate) const NO_ROOM: u64 = 18 * 0x100_0000_0000;
 
-#[unsafe(no_mangle)]
-pub extern "C" fn skogmund_unpack(section5: &[u8], section7: &[u8], row: &mut [u32]) -> u64
+pub fn skogmund_unpack(section5: &[u8], section7: &[u8], row: &mut [u32]) -> u64
     ensures { done result row.new ≡ row_unpacked section5.now section7.now row.old }
 {
     let answer = packing::unpack(section5, section7, row);
@@ -27,8 +26,7 @@ pub extern "C" fn skogmund_unpack(section5: &[u8], section7: &[u8], row: &mut [u
 }
 
 // The count and the numbers of a section's record, in the first places.
-#[unsafe(no_mangle)]
-pub extern "C" fn skogmund_read(section: u8, s: &[u8], values: &mut [i64]) -> u64
+pub fn skogmund_read(section: u8, s: &[u8], values: &mut [i64]) -> u64
     ensures { done result values.new ≡ record_told section s.now values.old }
 {
     code(values::read_into(section, s, values))
@@ -43,8 +41,7 @@ pub(crate) fn code(x: Refusal) -> u64
 }
 
 // What the program `listing` prints for this queue, at the start of the text buffer, and its length in the first place of `length`.
-#[unsafe(no_mangle)]
-pub extern "C" fn skogmund_list(queue: &[u8], text: &mut [u8], length: &mut [u64]) -> u64
+pub fn skogmund_list(queue: &[u8], text: &mut [u8], length: &mut [u64]) -> u64
     ensures { done_both result text.new length.new ≡ listing_told queue.now text.old length.old }
 {
     let mut room = report::listing_buffer();

@@ -14,8 +14,7 @@ const OF_A_FIELD: usize = 10;
 const SPANS: usize = 160;
 
 // The fields' sections, first octet (from 1) and length of each, in the first places, and how many fields there are.
-#[unsafe(no_mangle)]
-pub extern "C" fn skogmund_message(message: &[u8], spans: &mut [u64], count: &mut [u64]) -> u64
+pub fn skogmund_message(message: &[u8], spans: &mut [u64], count: &mut [u64]) -> u64
     ensures { done_both result spans.new count.new ≡ message_told message.now spans.old count.old }
 {
     let cut = message::read(message);

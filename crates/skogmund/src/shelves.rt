@@ -18,8 +18,7 @@ const NO_SLOT: u64 = 16 * 0x100_0000_0000;
 const MALFORMED: u64 = 19 * 0x100_0000_0000;
 
 // The empty shelf.
-#[unsafe(no_mangle)]
-pub extern "C" fn skogmund_empty(shelf: &mut [u8]) -> u64
+pub fn skogmund_empty(shelf: &mut [u8]) -> u64
     ensures { done result shelf.new ≡ emptied shelf.old }
 {
     if shelf.len() != SHELF {
@@ -30,8 +29,7 @@ pub extern "C" fn skogmund_empty(shelf: &mut [u8]) -> u64
 }
 
 // Joins another shelf in, slot by slot.
-#[unsafe(no_mangle)]
-pub extern "C" fn skogmund_join(shelf: &mut [u8], other: &[u8]) -> u64
+pub fn skogmund_join(shelf: &mut [u8], other: &[u8]) -> u64
     ensures { done result shelf.new ≡ joined shelf.old other.now }
 {
     if shelf.len() != SHELF {
@@ -47,8 +45,7 @@ pub extern "C" fn skogmund_join(shelf: &mut [u8], other: &[u8]) -> u64
 }
 
 // Files a field; `kept` is 1 where the slot changed, and 0 where it did not.
-#[unsafe(no_mangle)]
-pub extern "C" fn skogmund_file<'s, 'a, 'k>(
+pub fn skogmund_file<'s, 'a, 'k>(
     shelf: &'s mut [u8],
     slot: u64,
     issue_plus_1: u64,
@@ -98,8 +95,7 @@ fn keep(shelf: &mut [u8], places: &mut [u64], after: Shelf, numbers: &[u64]) -> 
 }
 
 // Files a queue; the counts are its records kept, passed and refused.
-#[unsafe(no_mangle)]
-pub extern "C" fn skogmund_file_queue(shelf: &mut [u8], queue: &[u8], counts: &mut [u64]) -> u64
+pub fn skogmund_file_queue(shelf: &mut [u8], queue: &[u8], counts: &mut [u64]) -> u64
     ensures { done_both result shelf.new counts.new ≡ filed_queue shelf.old queue.now counts.old }
 {
     let done = queue::file(shelf_octets::read(shelf), queue);
@@ -117,8 +113,7 @@ pub extern "C" fn skogmund_file_queue(shelf: &mut [u8], queue: &[u8], counts: &m
 }
 
 // What a slot holds: how many values follow, and they.
-#[unsafe(no_mangle)]
-pub extern "C" fn skogmund_slot(shelf: &[u8], slot: u64, values: &mut [i64]) -> u64
+pub fn skogmund_slot(shelf: &[u8], slot: u64, values: &mut [i64]) -> u64
     ensures { done result values.new ≡ slot_shown shelf.now slot values.old }
 {
     if 63 < slot {

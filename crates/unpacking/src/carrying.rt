@@ -90,8 +90,7 @@ fn power(left: u32) -> u64
 }
 
 // Fills the row with its numbers; a number of more than 32 bits has no room in a place, and the row stays as it was.
-#[unsafe(no_mangle)]
-pub extern "C" fn unpack_octets(packed: &[u8], bits: u32, row: &mut [u32])
+pub fn unpack_octets(packed: &[u8], bits: u32, row: &mut [u32])
     ensures { row.new ≡ filled bits packed.now row.old }
 {
     if 32 < bits {

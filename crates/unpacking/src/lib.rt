@@ -10,9 +10,11 @@ pub mod bits;
 pub mod carrying;
 mod eights;
 
+// Alone for the exports for C, which are in a crate of their own.
+pub use crate::eights::unpack_eights;
+
 // Fills the row: what `packing` calls. Without `eights` this is `carrying::unpack_octets`.
-#[unsafe(no_mangle)]
-pub extern "C" fn unpack(packed: &[u8], bits: u32, row: &mut [u32])
+pub fn unpack(packed: &[u8], bits: u32, row: &mut [u32])
     ensures { row.new ≡ filled bits packed.now row.old }
 {
     eights::few_or_eights(packed, bits, row);

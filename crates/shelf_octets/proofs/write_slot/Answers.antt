@@ -10,10 +10,10 @@ use Rattle.shelf_octets.proofs.write_slot.Goals as goal
 pub returns-then-not-slot : goal.returns-then-not-slot
 unfolding octets_of_slot
 returns-then-not-slot c =
-    rw (c.if-not-slot.true) c.octets.ensures
+    rw (not-true c.args.slot.held c.if-not-slot.true) c.octets.ensures
 
 pub returns : goal.returns
 unfolding octets_of_slot
 returns c =
-    rw (c.if-not-slot.false)
+    rw (not-false c.args.slot.held c.if-not-slot.false)
     (and_then _ _ _ c.octet-next.ensures c.write_card.ensures)

@@ -1,0 +1,6 @@
+use Rattle.octets.proofs.Free.{free}
+use borrow.Author.Rules.{rules}
+use Rattle.field.proofs.refusal_of.Goals as goal
+
+pub returns-in-Read : goal.returns-in-Read
+returns-in-Read c = simp (c.none.ensures, c.in-Read.is)
