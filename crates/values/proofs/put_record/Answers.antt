@@ -13,8 +13,7 @@ use Rattle.layout.specs.Outcomes.{refused}
 use Rattle.packing.specs.Section7.{outcome₇alone}
 use Rattle.values.specs.Records.{section_outcome, PutsRecord}
 use Rattle.values.proofs.Templates.{row₅, row₇}
-use Rattle.values.proofs.put_record.Statement.{statement}
-use Rattle.values.proofs.put_record.Tie as tie
+use Rattle.values.proofs.put_record.Goals as goal
 
 -- an arm's row is for its section
 arm : (s : List ℕ) (row row' : List ℤ) {section key : ℕ} → section ≡ key → PutsRecord (section_outcome key s) row row' → PutsRecord (section_outcome section s) row row'
@@ -25,53 +24,30 @@ last : (s : List ℕ) (row row' : List ℤ) (section : ℕ) (t : Bool) → PutsR
 last s row row' section true p = p
 last s row row' section false p = λ vs accepted. let z : ◌≡◌ {A = ℕ} 0 1 = cc in absurd (omega arith)
 
-returns : tie.Need-returns
+pub returns-in-1 : goal.returns-in-1
 unfolding section_outcome
-returns c = arm _ _ _ c.before.before.before.match.keys1 c.before.put-identification.ensures
+returns-in-1 c = arm _ _ _ c.in-1.is c.put_identification.ensures
 
-returns-2 : tie.Need-returns-2
+pub returns-in-3 : goal.returns-in-3
 unfolding section_outcome
-returns-2 c = arm _ _ _ c.before.before.before.match.keys2 c.before.put-grid.ensures
+returns-in-3 c = arm _ _ _ c.in-3.is c.put_grid.ensures
 
-returns-3 : tie.Need-returns-3
+pub returns-in-4 : goal.returns-in-4
 unfolding section_outcome
-returns-3 c = arm _ _ _ c.before.before.before.match.keys3 c.before.put-product.ensures
+returns-in-4 c = arm _ _ _ c.in-4.is c.put_product.ensures
 
-returns-4 : tie.Need-returns-4
+pub returns-in-5 : goal.returns-in-5
 unfolding section_outcome
-returns-4 c = arm _ _ _ c.before.before.before.before.match.keys4 (row₅ _ _ _ c.before.put.ensures)
+returns-in-5 c = arm _ _ _ c.in-5.is (row₅ _ _ _ c.put.ensures)
 
-returns-5 : tie.Need-returns-5
+pub returns-in_default : goal.returns-in_default
 unfolding section_outcome
-returns-5 c =
-    let m = c.before.before.before.before in
-    let other = m.match.rest in
+returns-in_default c =
+    let other = c.in_default.in_default-own.rest in
     simp (
       ne_eqb _ _ other.0.0.0.1,
       ne_eqb _ _ other.0.0.1,
       ne_eqb _ _ other.0.1,
       ne_eqb _ _ other.1,
     )
-    (last _ _ _ _ (eqb m.before.before.args.section 7) (row₇ _ _ _ c.before.put2.ensures))
-
-pub put-record-spec : {M : Type 1} → statement M
-put-record-spec =
-    tie.close
-    (tie.spec
-    (λ c κs. search rules)
-    (λ c κs. search rules)
-    (λ c κs. search rules)
-    (λ c. search rules)
-    (λ c κs. search rules)
-    (λ c. search rules)
-    (λ c κs. search rules)
-    (λ c. search rules)
-    returns
-    (λ c. search rules)
-    returns-2
-    (λ c. search rules)
-    returns-3
-    (λ c. search rules)
-    returns-4
-    (λ c. search rules)
-    returns-5)
+    (last _ _ _ _ (eqb c.args.section 7) (row₇ _ _ _ c.put-in_default.ensures))

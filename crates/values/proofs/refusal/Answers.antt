@@ -22,8 +22,7 @@ use Rattle.packing.specs.declared.Answer.{Answer as Answer₅}
 use Rattle.packing.specs.declared.Answer.TheVariants.{Read as Read₅, Refused as Refused₅}
 use Rattle.packing.specs.Section7.{outcome₇alone}
 use Rattle.values.specs.Records.{section_outcome}
-use Rattle.values.proofs.refusal.Statement.{statement}
-use Rattle.values.proofs.refusal.Tie as tie
+use Rattle.values.proofs.refusal.Goals as goal
 
 -- an answer's refusal is its outcome's
 of₁ : (a : Answer₁) → refusal_in₁ a ≡ refusal_of (told₁ a)
@@ -54,30 +53,30 @@ of₇ s = refusal-first 7 (head_reasons 7 s) _
 arm : (s : List ℕ) {section key : ℕ} {r : Refusal} → section ≡ key → r ≡ refusal_of (section_outcome key s) → r ≡ refusal_of (section_outcome section s)
 arm s e p = p ∙ sym (ap (λ (k : ℕ). refusal_of (section_outcome k s)) e)
 
-returns : tie.Need-returns
+pub returns-in-1 : goal.returns-in-1
 unfolding section_outcome
-returns c = arm _ c.before.before.match.keys1 (c.refusal-of.ensures ∙ of₁ _ ∙ ap refusal_of c.before.read.ensures)
+returns-in-1 c = arm _ c.in-1.is (c.refusal_of.ensures ∙ of₁ _ ∙ ap refusal_of c.read.ensures)
 
-returns-2 : tie.Need-returns-2
+pub returns-in-3 : goal.returns-in-3
 unfolding section_outcome
-returns-2 c = arm _ c.before.before.match.keys2 (c.refusal-of2.ensures ∙ of₃ _ ∙ ap refusal_of c.before.read2.ensures)
+returns-in-3 c = arm _ c.in-3.is (c.refusal_of-in-3.ensures ∙ of₃ _ ∙ ap refusal_of c.read-in-3.ensures)
 
-returns-3 : tie.Need-returns-3
+pub returns-in-4 : goal.returns-in-4
 unfolding section_outcome
-returns-3 c = arm _ c.before.before.match.keys3 (c.refusal-of3.ensures ∙ of₄ _ ∙ ap refusal_of c.before.read3.ensures)
+returns-in-4 c = arm _ c.in-4.is (c.refusal_of-in-4.ensures ∙ of₄ _ ∙ ap refusal_of c.read-in-4.ensures)
 
-returns-4 : tie.Need-returns-4
+pub returns-in-5 : goal.returns-in-5
 unfolding section_outcome
-returns-4 c = arm _ c.before.before.match.keys4 (c.refusal-of4.ensures ∙ of₅ _ ∙ ap refusal_of c.before.read4.ensures)
+returns-in-5 c = arm _ c.in-5.is (c.refusal_of-in-5.ensures ∙ of₅ _ ∙ ap refusal_of c.read-in-5.ensures)
 
-returns-5 : tie.Need-returns-5
+pub returns-in-7 : goal.returns-in-7
 unfolding section_outcome
-returns-5 c = arm _ c.before.match.keys5 (c.head-refusal.ensures ∙ of₇ _)
+returns-in-7 c = arm _ c.in-7.is (c.head_refusal.ensures ∙ of₇ _)
 
-returns-6 : tie.Need-returns-6
+pub returns-in_default : goal.returns-in_default
 unfolding section_outcome
-returns-6 c =
-    let other = c.before.match.rest in
+returns-in_default c =
+    let other = c.in_default.in_default-own.rest in
     simp (
       ne_eqb _ _ other.0.0.0.0.1,
       ne_eqb _ _ other.0.0.0.1,
@@ -86,24 +85,3 @@ returns-6 c =
       ne_eqb _ _ other.1,
     )
     c.of.ensures
-
-pub refusal-spec : {M : Type 1} → statement M
-refusal-spec =
-    tie.close
-    (tie.spec
-    (λ c κs. search rules)
-    (λ c κs. search rules)
-    (λ c κs. search rules)
-    (λ c κs. search rules)
-    (λ c κs. search rules)
-    (λ c κs. search rules)
-    (λ c κs. search rules)
-    (λ c κs. search rules)
-    (λ c κs. search rules)
-    (λ c κs. search rules)
-    returns
-    returns-2
-    returns-3
-    returns-4
-    returns-5
-    returns-6)
