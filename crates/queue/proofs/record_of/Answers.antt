@@ -121,3 +121,12 @@ slice_bounds-leading_number-start-2 c =
     let few-two : Taken (drop c.in-Found.a c.args.octets.now) c.in-Found-leading_number.stored c.in-Found-leading_number.b = taken _ _ _ (second) in
     let both-inside : c.in-Found.a + c.in-Found-leading_number.b ≤ length c.args.octets.now = omega (arith, (few-one).inside, (few-two).inside, length-drop c.in-Found.a c.args.octets.now) in
     omega (arith, both-inside)
+
+pub slice_bounds-leading_number-count-2 : goal.slice_bounds-leading_number-count-2
+slice_bounds-leading_number-count-2 c =
+    let first : leading_number c.args.octets.now ≡ Found c.in-Found.slot c.in-Found.a = sym c.leading_number.ensures ∙ c.in-Found.is in
+    let second : leading_number (drop c.in-Found.a c.args.octets.now) ≡ Found c.in-Found-leading_number.stored c.in-Found-leading_number.b = sym (behind-is c.args.octets.now c.in-Found.a) ∙ sym c.leading_number-2.ensures ∙ c.in-Found-leading_number.is in
+    let few-one : Taken c.args.octets.now c.in-Found.slot c.in-Found.a = taken _ _ _ (first) in
+    let few-two : Taken (drop c.in-Found.a c.args.octets.now) c.in-Found-leading_number.stored c.in-Found-leading_number.b = taken _ _ _ (second) in
+    let both-inside : c.in-Found.a + c.in-Found-leading_number.b ≤ length c.args.octets.now = omega (arith, (few-one).inside, (few-two).inside, length-drop c.in-Found.a c.args.octets.now) in
+    both-inside
