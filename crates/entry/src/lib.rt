@@ -1,1 +1,3 @@
+#![tactic(auto)]
+
 // No code: what is said of a public entry, which each crate states of its own (proofs/Entries.antt there).

@@ -2,7 +2,6 @@ use mir.Syntax.{w32}
 use mir.ValLaws.{to_z-of_z}
 use Rattle.card.specs.Order.{lex}
 use Rattle.card.specs.Key.{key_of, less_card}
-use borrow.Author.Rules.{rules}
 use Rattle.card.proofs.less.Goals as goal
 
 pub returns : goal.returns

@@ -1,16 +1,10 @@
 use Rattle.card.specs.Order.{lex}
-use Rattle.card.proofs.Octets.{from, lex-at, lex-end}
-use mathlib.Core.Path.{◌≡◌, refl, sym, ◌∙◌}
-use mathlib.Core.Bool.{cond, true, false}
+use Rattle.card.proofs.Octets.{from}
+use mathlib.Core.Path.{◌≡◌}
 use mathlib.Core.List.{map}
-use lib.Dec.{ltb}
-use Prim.Native.Nat.{◌+◌, ◌≤◌, ◌-◌}
-use native.Mathlib.Omega.{arith}
-use lib.ListN.{length, get_or}
+use Prim.Native.Nat.{◌≤◌, ◌-◌}
 use lib.IntN.{pos}
 use lib.Signed.{lt_z}
-use borrow.Author.Tests.{lt-ltb, le-ltb}
-use borrow.Author.Rules.{rules}
 use Rattle.card.proofs.less_octets.Given as goal
 
 abbrev pub invariant-loop-i : goal.invariant-loop-i

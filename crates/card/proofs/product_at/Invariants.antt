@@ -1,15 +1,9 @@
 -- `product_at`: after i turns the first i octets are those from octet `at` on.
 -- Assumes nothing.
-use Rattle.octets.specs.Octets.{part, be_at}
-use Rattle.octets.proofs.Laws.{part-add, part-past, be_at-one}
-use mathlib.Core.Path.{◌≡◌, refl, sym, ap, ◌∙◌}
-use mathlib.Core.List.{List, [], ◌∷◌, ◌++◌}
-use Prim.Native.Nat.{ℕ, ◌+◌, ◌≤◌, ◌<◌, ◌-◌}
-use native.Mathlib.Omega.{arith}
-use native.Mathlib.Numerals.{add-one}
-use lib.ListN.{length, take, set, length-set}
-use lib.Seq.{take_all, take-suc-set}
-use borrow.Author.Rules.{rules}
+use Rattle.octets.specs.Octets.{part}
+use mathlib.Core.Path.{◌≡◌}
+use Prim.Native.Nat.{◌≤◌, ◌-◌}
+use lib.ListN.{length, take}
 use Rattle.card.proofs.product_at.Given as goal
 
 abbrev pub invariant-loop-i : goal.invariant-loop-i

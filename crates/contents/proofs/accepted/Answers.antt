@@ -1,7 +1,5 @@
 -- `accepted`: the heading, the fields and how many they are.
 -- Assumes nothing.
-use borrow.Author.Rules.{rules}
-use Rattle.octets.proofs.Free.{free}
 use Rattle.lent.proofs.Written.{and_then}
 use Rattle.contents.specs.Contents.{accepted_text}
 use Rattle.contents.proofs.accepted.Goals as goal

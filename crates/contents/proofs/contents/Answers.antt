@@ -1,9 +1,7 @@
 -- `contents`: accepted or refused.
 -- Assumes nothing.
 use native.Mathlib.Omega.{arith}
-use borrow.Author.Rules.{rules}
 use borrow.Author.Tests.{eq-eqb, ne_eqb}
-use Rattle.octets.proofs.Free.{free}
 use Rattle.message.proofs.Views.{field-low}
 use Rattle.contents.specs.Contents.{contents_of, contents}
 use Rattle.contents.proofs.contents.Goals as goal

@@ -1,8 +1,6 @@
 -- `field_line`: the number, the time, the numbers and the places, of sections that are parts of the message.
 -- Assumes nothing.
-use borrow.Author.Rules.{rules}
 use mathlib.Core.Path.{sym, subst}
-use Rattle.octets.proofs.Free.{free}
 use Rattle.lent.proofs.Written.{and_then}
 use Rattle.identification.specs.Section1.{outcome₁}
 use Rattle.message.specs.Messages.{shown_in, field_of, section_in, numbered}

@@ -1,9 +1,8 @@
 -- `field_lines`: field by field, what is left to write stands behind what is written.
 -- Assumes nothing.
-use Prim.Native.Nat.{◌-◌}
 use native.Mathlib.Omega.{arith}
 use Rattle.lent.specs.Written.{written}
-use Rattle.lent.proofs.Written.{Turns, first-turn, next-turn, last_turn}
+use Rattle.lent.proofs.Written.{first-turn, next-turn, last_turn}
 use Rattle.contents.specs.Contents.{line_of}
 use Rattle.contents.proofs.field_lines.Goals as goal
 

@@ -1,7 +1,5 @@
 -- `numbers_text`: four numbers of three sections.
 -- Assumes nothing.
-use borrow.Author.Rules.{rules}
-use Rattle.octets.proofs.Free.{free}
 use Rattle.lent.proofs.Written.{and_then}
 use Rattle.contents.specs.Contents.{numbers_text}
 use Rattle.contents.proofs.numbers_text.Goals as goal

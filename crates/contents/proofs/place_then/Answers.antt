@@ -1,6 +1,5 @@
 -- `place_then`: two numbers.
 -- Assumes nothing.
-use borrow.Author.Rules.{rules}
 use Rattle.lent.proofs.Written.{and_then}
 use Rattle.contents.proofs.place_then.Goals as goal
 

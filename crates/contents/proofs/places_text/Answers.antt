@@ -1,6 +1,5 @@
 -- `places_text`: five places.
 -- Assumes nothing.
-use borrow.Author.Rules.{rules}
 use Rattle.lent.proofs.Written.{and_then}
 use Rattle.contents.specs.Contents.{places_text}
 use Rattle.contents.proofs.places_text.Goals as goal

@@ -2,8 +2,6 @@
 -- Assumes nothing.
 use mir.Syntax.{w32}
 use mir.ValLaws.{to_z-of_z}
-use borrow.Author.Rules.{rules}
-use Rattle.octets.proofs.Free.{free}
 use Rattle.layout.specs.Time.{time_in}
 use Rattle.identification.specs.Section1.{told, values_in}
 use Rattle.lent.specs.Written.{append}

@@ -3,9 +3,7 @@
 use native.Mathlib.Omega.{arith}
 use Prim.Native.Nat.{◌+◌, ◌-◌}
 use lib.ListN.{length, length-drop}
-use borrow.Author.Rules.{rules}
 use borrow.Author.Tests.{lt-ltb, le-ltb}
-use Rattle.octets.proofs.Free.{free}
 use Rattle.octets.proofs.Laws.{be_at-past}
 use Rattle.cutting.specs.Sections.{section_step, end_after}
 use Rattle.cutting.proofs.Sections.{size-after}

@@ -9,7 +9,7 @@ use lib.Pow.{pow_mono, pow-add}
 use borrow.Author.Tests.{ne_eqb}
 use mathlib.Core.Bool.{Bool, cond}
 use native.Mathlib.Nat.{mul-le-mul_right, mul-le-mul_left}
-use Rattle.cutting.specs.Numbers.{groups, before}
+use Rattle.cutting.specs.Numbers.{groups}
 use Rattle.cutting.specs.declared.Number.TheVariants.{Found, Malformed}
 use Rattle.cutting.proofs.Numbers.{shifted, shift-before, first-shifted, group-last, group-more, group-end}
 use Rattle.cutting.proofs.groups_of.Invariants.{Going}

@@ -1,6 +1,5 @@
 -- `leading_number`: the groups, and then the bound.
 -- Assumes nothing.
-use borrow.Author.Rules.{rules}
 use borrow.Author.Tests.{lt-ltb, le-ltb}
 use Rattle.cutting.specs.Numbers.{leading_number}
 use Rattle.cutting.proofs.leading_number.Goals as goal

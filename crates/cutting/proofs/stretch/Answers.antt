@@ -1,9 +1,7 @@
-use borrow.Author.Rules.{rules}
 use mathlib.Core.Path.{◌≡◌, ap, ◌∙◌}
 use Prim.Native.Nat.{ℕ, ◌-◌}
 use native.Mathlib.Omega.{arith}
 use lib.ListN.{take, drop}
-use Rattle.octets.proofs.Free.{free}
 use Rattle.cutting.proofs.stretch.Goals as goal
 
 pub returns-then-end-start : goal.returns-then-end-start

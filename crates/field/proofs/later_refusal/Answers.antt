@@ -1,10 +1,8 @@
-use Rattle.octets.proofs.Free.{free}
 use Rattle.layout.specs.Outcomes.{and_then}
 use Rattle.layout.proofs.Outcomes.{answer-is}
 use Rattle.product.specs.Section4.{told as told₄}
 use Rattle.packing.specs.Section5.{told₅}
 use Rattle.field.specs.Field.{later_outcome}
-use borrow.Author.Rules.{rules}
 use Rattle.field.proofs.later_refusal.Goals as goal
 
 pub returns-in_default : goal.returns-in_default

@@ -1,4 +1,3 @@
-use Rattle.octets.proofs.Free.{free}
 use Rattle.layout.proofs.Outcomes.{answer-is}
 use Rattle.identification.specs.Section1.{told as told₁, values_in as values_in₁}
 use Rattle.grid.specs.Blocks.{values_in as values_in₃}
@@ -9,7 +8,6 @@ use Rattle.packing.specs.Section5.{told₅}
 use Rattle.field.specs.Field.{read_field, onward, field_outcome, told}
 use Rattle.field.proofs.Later.{rest-onward}
 use mathlib.Core.Path.{◌≡◌}
-use borrow.Author.Rules.{rules}
 use Rattle.field.proofs.read.Goals as goal
 
 pub returns-in_default : goal.returns-in_default

@@ -1,4 +1,3 @@
-use Rattle.octets.proofs.Free.{free}
 use Rattle.layout.specs.Outcomes.{read, first_of, and_then}
 use Rattle.layout.proofs.Outcomes.{answer-is}
 use Rattle.packing.specs.Section5.{outcome₅, told₅, values_in₅}
@@ -7,7 +6,6 @@ use Rattle.packing.proofs.Unpacks.{known}
 use Rattle.field.specs.Field.{packing_outcome}
 use mathlib.Core.Path.{◌≡◌, sym, ◌∙◌}
 use borrow.Author.Tests.{eq-eqb, ne_eqb}
-use borrow.Author.Rules.{rules}
 use Rattle.field.proofs.read_packing.Goals as goal
 
 pub returns-in_default : goal.returns-in_default

@@ -1,10 +1,8 @@
-use Rattle.octets.proofs.Free.{free}
 use Rattle.layout.proofs.Outcomes.{answer-is}
 use Rattle.field.specs.Field.{told}
 use Rattle.filing.specs.Filing.{filed_of, filed_by, filing_of, of_field, after_put}
 use mathlib.Core.Path.{ap, ◌∙◌}
 use borrow.Author.Tests.{lt-ltb, le-ltb}
-use borrow.Author.Rules.{rules}
 use Rattle.filing.proofs.file_by_value.Goals as goal
 
 pub returns-then-slot-gt63 : goal.returns-then-slot-gt63

@@ -1,6 +1,5 @@
 use Rattle.layout.specs.Time.{time_in}
 use Rattle.identification.specs.Section1.{values_in}
-use borrow.Author.Rules.{rules}
 use Rattle.filing.proofs.foreign_calendar.Goals as goal
 
 pub returns-in-None : goal.returns-in-None

@@ -1,4 +1,3 @@
-use Rattle.octets.proofs.Free.{free}
 use Prim.Native.Nat.{ℕ}
 use mathlib.Core.Path.{◌≡◌, refl, sym, ◌∙◌}
 use mathlib.Core.List.{List}

@@ -1,4 +1,3 @@
-use Rattle.octets.proofs.Free.{free}
 use Rattle.layout.specs.Fields.{placed, lowest_bad}
 use Rattle.layout.specs.Time.{time}
 use Rattle.identification.proofs.bad_date.Goals as goal

@@ -1,8 +1,6 @@
-use Rattle.octets.proofs.Free.{free}
 use Rattle.layout.specs.Fields.{placed, lowest_bad}
 use Rattle.layout.specs.Time.{time}
 use Rattle.identification.specs.Section1.{fields₁, origin, status_and_type}
-use borrow.Author.Rules.{rules}
 use Rattle.identification.proofs.bad_place.Goals as goal
 
 pub returns-in-None : goal.returns-in-None

@@ -1,4 +1,3 @@
-use Rattle.octets.proofs.Free.{free}
 use Rattle.layout.proofs.Outcomes.{opening-first}
 use Rattle.layout.specs.Outcomes.{first_of}
 use Rattle.identification.specs.Section1.{outcome₁, told}

@@ -1,4 +1,3 @@
-use Rattle.octets.proofs.Free.{free}
 use Rattle.identification.specs.Section1.{by_template, by_number, told}
 use Rattle.layout.specs.Outcomes.{refused}
 use Prim.Native.Nat.{ℕ, zero, suc}

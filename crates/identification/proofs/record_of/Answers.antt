@@ -1,8 +1,6 @@
-use Rattle.octets.proofs.Free.{free}
 use Rattle.layout.specs.Fields.{placed, values_of}
 use Rattle.layout.specs.Time.{time}
 use Rattle.identification.specs.Section1.{fields₁, origin, status_and_type, values₁, real_year_at}
-use borrow.Author.Rules.{rules}
 use Rattle.identification.proofs.record_of.Goals as goal
 
 pub returns-in-None : goal.returns-in-None

@@ -1,5 +1,3 @@
-use Rattle.octets.proofs.Free.{free}
-use borrow.Author.Rules.{rules}
 use Rattle.identification.proofs.refusal_of.Goals as goal
 
 pub returns-in-Read : goal.returns-in-Read

@@ -1,4 +1,3 @@
-use Rattle.octets.proofs.Free.{free}
 use Rattle.octets.proofs.Signs.{kept32}
 use Rattle.octets.specs.Octets.{sign_of, real_year}
 use Rattle.layout.specs.Fields.{placed, values_of}

@@ -1,4 +1,3 @@
-use Rattle.octets.proofs.Free.{free}
 use Rattle.octets.specs.Octets.{be_at}
 use Rattle.layout.specs.Fields.{placed, values_of}
 use Rattle.layout.specs.Time.{time}
@@ -9,7 +8,6 @@ use mir.Syntax.{w32}
 use lib.IntN.{pos}
 use mathlib.Core.Path.{◌≡◌, ap, ◌∙◌}
 use native.Mathlib.Omega.{arith}
-use borrow.Author.Rules.{rules}
 use Rattle.identification.proofs.unsigned_year.Goals as goal
 
 pub returns : goal.returns

@@ -1,4 +1,3 @@
-use Rattle.octets.proofs.Free.{free}
 use Rattle.octets.proofs.Signs.{kept32}
 use Rattle.layout.specs.Fields.{placed, values_of, plain, is}
 use Rattle.identification.specs.Section1.{origin, status_and_type, values_in, template_in}

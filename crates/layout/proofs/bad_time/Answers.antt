@@ -1,7 +1,5 @@
-use Rattle.octets.proofs.Free.{free}
 use Rattle.layout.specs.Fields.{lowest_bad, placed}
 use Rattle.layout.specs.Time.{time}
-use borrow.Author.Rules.{rules}
 use Rattle.layout.proofs.bad_time.Goals as goal
 
 pub returns : goal.returns

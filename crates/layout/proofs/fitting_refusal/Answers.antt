@@ -1,4 +1,3 @@
-use Rattle.octets.proofs.Free.{free}
 use Rattle.layout.specs.Outcomes.{first_refusal, fitting_reasons}
 use borrow.Author.Tests.{eq-eqb, ne_eqb}
 use Rattle.layout.proofs.fitting_refusal.Goals as goal

@@ -1,7 +1,5 @@
-use Rattle.octets.proofs.Free.{free}
 use Rattle.layout.specs.Outcomes.{first_refusal}
 use borrow.Author.Tests.{le-ltb, lt-ltb, eq-eqb, ne_eqb}
-use borrow.Author.Rules.{rules}
 use Rattle.layout.proofs.head_refusal.Goals as goal
 
 pub returns-then-s-lt5 : goal.returns-then-s-lt5

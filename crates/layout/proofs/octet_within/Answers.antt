@@ -1,4 +1,3 @@
-use Rattle.octets.proofs.Free.{free}
 use Rattle.layout.specs.Fields.{between}
 use borrow.Author.Tests.{le-leb, lt-leb}
 use Rattle.layout.proofs.octet_within.Goals as goal

@@ -1,4 +1,3 @@
-use Rattle.octets.proofs.Free.{free}
 use borrow.Author.Tests.{eq-eqb, ne_eqb}
 use Rattle.layout.proofs.present32.Goals as goal
 

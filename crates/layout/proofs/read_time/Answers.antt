@@ -1,8 +1,6 @@
-use Rattle.octets.proofs.Free.{free}
 use Rattle.layout.specs.Fields.{values_of, placed, plain}
 use Rattle.layout.specs.Time.{time, time_in}
 use mathlib.Core.List.{◌∷◌, []}
-use borrow.Author.Rules.{rules}
 use Rattle.layout.proofs.read_time.Goals as goal
 
 pub returns : goal.returns

@@ -1,4 +1,3 @@
-use Rattle.octets.proofs.Free.{free}
 use mathlib.Core.Path.{◌∙◌}
 use Rattle.layout.specs.Fields.{is}
 use Rattle.octets.proofs.Signs.{kept32}

@@ -3,10 +3,8 @@ use native.Mathlib.Omega.{arith}
 use mathlib.Core.Path.{◌≡◌}
 use mathlib.Core.Bool.{true, false}
 use lib.Dec.{ltb}
-use Rattle.octets.proofs.Free.{free}
 use Rattle.layout.specs.Outcomes.{first_refusal, total_reasons}
 use borrow.Author.Tests.{le-ltb, lt-ltb}
-use borrow.Author.Rules.{rules}
 use Rattle.layout.proofs.total_refusal.Goals as goal
 
 not-shorter : (n total : ℕ) → n ≡ total → ltb n total ≡ false

@@ -1,4 +1,3 @@
-use Rattle.octets.proofs.Free.{free}
 use borrow.Author.Rules.{rules}
 use borrow.Author.Tests.{eq-eqb, ne_eqb}
 use Rattle.layout.proofs.u16_or_missing.Goals as goal

@@ -1,13 +1,11 @@
 -- `numbers`: those that are left, written into the row as it is now, make the row of all.
 -- Assumes nothing.
-use Prim.Native.Nat.{◌-◌}
 use native.Mathlib.Omega.{arith}
 use mathlib.Core.Path.{refl, ap, ◌∙◌}
 use mathlib.Core.Bool.{true}
-use lib.ListN.{length}
 use borrow.Author.Tests.{le-leb, lt-leb}
 use Rattle.lent.specs.Lent.{done}
-use Rattle.lent.proofs.Rows.{sets_over, Going, begins, goes_on, ends}
+use Rattle.lent.proofs.Rows.{sets_over, begins, goes_on, ends}
 use Rattle.lent.proofs.numbers.Goals as goal
 
 pub returns-then-row-numbers : goal.returns-then-row-numbers

@@ -1,13 +1,8 @@
 -- `numbers`: those that are left, written into the row as it is now, make the row of all.
 -- Assumes nothing.
 use Prim.Native.Nat.{◌-◌}
-use native.Mathlib.Omega.{arith}
-use mathlib.Core.Path.{refl, ap, ◌∙◌}
-use mathlib.Core.Bool.{true}
 use lib.ListN.{length}
-use borrow.Author.Tests.{le-leb, lt-leb}
-use Rattle.lent.specs.Lent.{done}
-use Rattle.lent.proofs.Rows.{sets_over, Going, begins, goes_on, ends}
+use Rattle.lent.proofs.Rows.{Going}
 use Rattle.lent.proofs.numbers.Given as goal
 
 abbrev pub invariant-loop-i : goal.invariant-loop-i

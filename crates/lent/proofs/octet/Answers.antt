@@ -1,4 +1,3 @@
-use borrow.Author.Rules.{rules}
 use borrow.Author.Tests.{lt-ltb, le-ltb}
 use Rattle.lent.specs.Written.{one, append}
 use Rattle.lent.proofs.octet.Goals as goal

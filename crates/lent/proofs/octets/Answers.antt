@@ -1,15 +1,13 @@
 -- `octets`: octet by octet, those that are left stand behind what is written.
 -- Assumes nothing.
 use mathlib.Core.Path.{◌≡◌, refl}
-use mathlib.Core.List.{List, [], ◌∷◌}
-use Prim.Native.Nat.{ℕ, ◌+◌, ◌-◌, ◌≤◌}
+use mathlib.Core.List.{[], ◌∷◌}
+use Prim.Native.Nat.{◌+◌}
 use native.Mathlib.Numerals.{add-one}
 use native.Mathlib.Omega.{arith}
-use lib.ListN.{length, get_or, drop, drop_of_length-le}
+use lib.ListN.{get_or, drop, drop_of_length-le}
 use lib.Seq.{drop-cons}
-use Rattle.lent.specs.Written.{Written, written}
-use Rattle.lent.proofs.Written.{Writing, writes-on, writes-all}
-use Rattle.lent.proofs.octets.Invariants.{Inv}
+use Rattle.lent.proofs.Written.{writes-on, writes-all}
 use Rattle.lent.proofs.octets.Goals as goal
 
 pub loop-i-init : goal.loop-i-init

@@ -1,14 +1,10 @@
 -- `octets`: octet by octet, those that are left stand behind what is written.
 -- Assumes nothing.
-use mathlib.Core.Path.{◌≡◌, refl}
-use mathlib.Core.List.{List, [], ◌∷◌}
-use Prim.Native.Nat.{ℕ, ◌+◌, ◌-◌, ◌≤◌}
-use native.Mathlib.Numerals.{add-one}
-use native.Mathlib.Omega.{arith}
-use lib.ListN.{length, get_or, drop, drop_of_length-le}
-use lib.Seq.{drop-cons}
+use mathlib.Core.List.{List}
+use Prim.Native.Nat.{ℕ, ◌-◌, ◌≤◌}
+use lib.ListN.{length, drop}
 use Rattle.lent.specs.Written.{Written, written}
-use Rattle.lent.proofs.Written.{Writing, writes-on, writes-all}
+use Rattle.lent.proofs.Written.{Writing}
 use Rattle.lent.proofs.octets.Given as goal
 
 pub record Inv (first : Written) (octets : List ℕ) (here : Written) (i : ℕ) : Type 0 where

@@ -1,9 +1,7 @@
 use native.Mathlib.Omega.{arith}
-use borrow.Author.Rules.{rules}
 use borrow.Author.Tests.{eq-eqb, ne_eqb}
 use mathlib.Core.Path.{sym, ◌∙◌, ap}
 use Rattle.layout.specs.declared.Refusal.{Refusal}
-use Rattle.octets.proofs.Free.{free}
 use Rattle.message.specs.Messages.{cut_message}
 use Rattle.message.proofs.Clear.{starts}
 use Rattle.message.proofs.cut_frame.Goals as goal

@@ -1,5 +1,4 @@
 use borrow.Author.Tests.{eq-eqb, ne_eqb}
-use Rattle.octets.proofs.Free.{free}
 use Rattle.layout.specs.Outcomes.{first_refusal}
 use Rattle.message.specs.Walk.{end_refusal}
 use Rattle.message.proofs.end_refusal.Goals as goal

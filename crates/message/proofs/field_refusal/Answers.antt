@@ -1,5 +1,4 @@
 use mathlib.Core.Path.{ap, sym, ◌∙◌}
-use Rattle.octets.proofs.Free.{free}
 use Rattle.layout.specs.declared.Refusal.{Refusal}
 use Rattle.message.proofs.Reading.{opening-refused, opening-passed}
 use Rattle.message.proofs.field_refusal.Goals as goal

@@ -6,11 +6,10 @@ use mathlib.Core.Path.{◌≡◌, ap, sym, ◌∙◌}
 use mathlib.Core.List.{map}
 use lib.ListN.{length, take}
 use borrow.Author.Rules.{rules}
-use Rattle.octets.proofs.Free.{free}
 use Rattle.octets.proofs.Lists.{unmapped}
 use Rattle.layout.specs.declared.Refusal.{Refusal}
-use Rattle.message.specs.Messages.{shown_in, OpeningRead, found_in, fields_read}
-use Rattle.message.proofs.Reading.{shown_from, none_left, all_read, next-read, next-refused, opening-read}
+use Rattle.message.specs.Messages.{shown_in, fields_read}
+use Rattle.message.proofs.Reading.{none_left, all_read, next-read, next-refused, opening-read}
 use Rattle.message.proofs.fields_refusal.Goals as goal
 
 pub loop-k-init : goal.loop-k-init

@@ -1,16 +1,9 @@
 -- `fields_refusal`: from field to field, up to the last or to the first that is refused.
 -- Assumes nothing.
-use Prim.Native.Nat.{ℕ, ◌-◌}
-use native.Mathlib.Omega.{arith}
-use mathlib.Core.Path.{◌≡◌, ap, sym, ◌∙◌}
-use mathlib.Core.List.{map}
-use lib.ListN.{length, take}
-use borrow.Author.Rules.{rules}
-use Rattle.octets.proofs.Free.{free}
-use Rattle.octets.proofs.Lists.{unmapped}
-use Rattle.layout.specs.declared.Refusal.{Refusal}
-use Rattle.message.specs.Messages.{shown_in, OpeningRead, found_in, fields_read}
-use Rattle.message.proofs.Reading.{shown_from, none_left, all_read, next-read, next-refused, opening-read}
+use Prim.Native.Nat.{◌-◌}
+use mathlib.Core.Path.{◌≡◌}
+use Rattle.message.specs.Messages.{OpeningRead, found_in, fields_read}
+use Rattle.message.proofs.Reading.{shown_from}
 use Rattle.message.proofs.fields_refusal.Given as goal
 
 abbrev pub invariant-loop-k : goal.invariant-loop-k

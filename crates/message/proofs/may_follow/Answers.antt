@@ -1,6 +1,4 @@
-use borrow.Author.Rules.{rules}
 use borrow.Author.Tests.{ne_eqb}
-use Rattle.octets.proofs.Free.{free}
 use Rattle.message.specs.Walk.{may_follow}
 use Rattle.message.proofs.may_follow.Goals as goal
 

@@ -1,6 +1,5 @@
 use Rattle.message.specs.Walk.{other_six}
 use borrow.Author.Tests.{eq-eqb, ne_eqb}
-use Rattle.octets.proofs.Free.{free}
 use Rattle.message.proofs.other_six.Goals as goal
 
 pub returns-then-u8_at-ne6 : goal.returns-then-u8_at-ne6

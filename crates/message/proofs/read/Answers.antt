@@ -1,5 +1,4 @@
 use borrow.Author.Tests.{eq-eqb, ne_eqb}
-use Rattle.octets.proofs.Free.{free}
 use Rattle.message.specs.Messages.{read_message}
 use Rattle.message.proofs.read.Goals as goal
 

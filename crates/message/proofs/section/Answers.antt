@@ -1,4 +1,3 @@
-use Rattle.octets.proofs.Free.{free}
 use Rattle.message.specs.Messages.{section_in}
 use Rattle.message.proofs.section.Goals as goal
 

@@ -1,5 +1,4 @@
 use borrow.Author.Tests.{lt-ltb, le-ltb}
-use Rattle.octets.proofs.Free.{free}
 use Rattle.layout.specs.Outcomes.{first_refusal}
 use Rattle.message.specs.Walk.{section_refusal}
 use Rattle.message.proofs.section_refusal.Goals as goal

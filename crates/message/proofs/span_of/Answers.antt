@@ -1,5 +1,4 @@
 use borrow.Author.Tests.{ne_eqb}
-use Rattle.octets.proofs.Free.{free}
 use Rattle.message.specs.Messages.{numbered}
 use Rattle.message.proofs.span_of.Goals as goal
 

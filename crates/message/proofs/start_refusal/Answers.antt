@@ -1,7 +1,6 @@
 use mathlib.Core.Path.{◌≡◌, ◌∙◌}
 use lib.ListN.{drop}
 use borrow.Author.Tests.{lt-ltb, le-ltb, eq-eqb, ne_eqb}
-use Rattle.octets.proofs.Free.{free}
 use Rattle.layout.specs.Outcomes.{first_refusal}
 use Rattle.message.specs.Messages.{start_reasons, start_refusal}
 use Rattle.message.proofs.start_refusal.Goals as goal

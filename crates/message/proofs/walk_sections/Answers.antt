@@ -9,7 +9,6 @@ use lib.ListN.{length}
 use Rattle.layout.specs.declared.Refusal.{Refusal}
 use borrow.Author.Rules.{rules}
 use borrow.Author.Tests.{eq-eqb, ne_eqb}
-use Rattle.octets.proofs.Free.{free}
 use Rattle.cutting.proofs.Sections.{EndsAfter}
 use Rattle.cutting.specs.Sections.{stretch}
 use Rattle.message.specs.Walk.{number_in, section_refusal, refused_with, unless_refused, one_more, start_walk}

@@ -2,7 +2,6 @@
 -- Assumes nothing.
 use Prim.Native.Nat.{◌<◌, ◌^◌}
 use mathlib.Core.Path.{◌∙◌}
-use borrow.Author.Rules.{rules}
 use lib.IntN.{nat_abs, pos, ◌+ℤ◌, ◌*ℤ◌}
 use Rattle.octets.proofs.Signs.{sign-abs, shift_fits, year-fits, year-is}
 use Rattle.octets.proofs.real_year.Goals as goal

@@ -4,7 +4,6 @@ use mir.ValLaws.{to_z_pos}
 use mir.Syntax.{w32}
 use native.Mathlib.Omega.{arith}
 use borrow.Author.Tests.{lt-ltb, le-ltb}
-use borrow.Author.Rules.{rules}
 use Rattle.octets.proofs.signed.Goals as goal
 
 pub overflow_sub-result-else-raw-top : goal.overflow_sub-result-else-raw-top

@@ -1,7 +1,6 @@
 use Rattle.octets.proofs.Signs.{kept32}
 use Rattle.octets.specs.Octets.{sign_of}
 use mathlib.Core.Path.{◌∙◌}
-use borrow.Author.Rules.{rules}
 use Rattle.octets.proofs.signed16.Goals as goal
 
 pub returns : goal.returns

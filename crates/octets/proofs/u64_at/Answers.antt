@@ -1,4 +1,3 @@
-use Rattle.octets.proofs.Free.{free}
 use Rattle.octets.proofs.Laws.{be_at-add, be_at-past}
 use mathlib.Core.Path.{sym}
 use native.Mathlib.Omega.{arith}

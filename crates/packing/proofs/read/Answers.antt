@@ -1,4 +1,3 @@
-use Rattle.octets.proofs.Free.{free}
 use Rattle.layout.proofs.Outcomes.{opening-first}
 use Rattle.layout.specs.Outcomes.{first_of}
 use Rattle.packing.specs.Section5.{outcome₅, told₅}

@@ -1,4 +1,3 @@
-use Rattle.octets.proofs.Free.{free}
 use Rattle.octets.proofs.Laws.{product-below}
 use Rattle.layout.proofs.Outcomes.{head_first}
 use Rattle.layout.specs.Fields.{placed, values_of, plain}

@@ -1,4 +1,3 @@
-use Rattle.octets.proofs.Free.{free}
 use Rattle.layout.specs.Fields.{placed, lowest_bad}
 use Rattle.layout.proofs.Outcomes.{template-first}
 use Rattle.packing.specs.Section5.{told₅, as_simple, fields₅}

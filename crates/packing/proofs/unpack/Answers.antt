@@ -1,6 +1,5 @@
 -- `unpack`: each way out is one of those of `Unpacks`. What was read of section 5 bounds the width, and of section 7 the length.
 -- Assumes nothing.
-use Rattle.octets.proofs.Free.{free}
 use Rattle.layout.specs.Fields.{Value}
 use Rattle.layout.specs.Outcomes.{read, refused_by}
 use Rattle.lent.proofs.Rows.{to_the_end}
@@ -16,7 +15,6 @@ use mathlib.Core.List.{List}
 use mathlib.Core.Path.{◌≡◌, sym, ap, ◌∙◌}
 use lib.ListN.{length}
 use native.Mathlib.Omega.{arith}
-use borrow.Author.Rules.{rules}
 use Rattle.packing.proofs.unpack.Goals as goal
 
 -- what was read of section 7

@@ -1,8 +1,6 @@
-use Rattle.octets.proofs.Free.{free}
 use Rattle.layout.proofs.Outcomes.{opening-first}
 use Rattle.product.specs.Section4.{by_template, outcome₄, told}
 use borrow.Author.Tests.{eq-eqb, ne_eqb}
-use borrow.Author.Rules.{rules}
 use Rattle.product.proofs.read.Goals as goal
 
 pub returns-then-refused-ne0 : goal.returns-then-refused-ne0

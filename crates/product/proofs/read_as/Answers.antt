@@ -1,4 +1,3 @@
-use Rattle.octets.proofs.Free.{free}
 use Rattle.layout.proofs.Outcomes.{template-first}
 use Rattle.product.specs.Section4.{told, as_template}
 use borrow.Author.Tests.{le-ltb, lt-ltb, eq-eqb, ne_eqb}

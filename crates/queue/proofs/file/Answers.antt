@@ -1,7 +1,6 @@
 -- `file`: refused as a whole, or filed record by record.
 -- Assumes nothing.
 use borrow.Author.Tests.{eq-eqb, ne_eqb}
-use Rattle.octets.proofs.Free.{free}
 use Rattle.queue.specs.Queues.{queue_filed}
 use Rattle.queue.proofs.file.Goals as goal
 

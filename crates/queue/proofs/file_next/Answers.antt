@@ -1,7 +1,5 @@
 -- `file_next`: the record is filed, and one of the three counts is one more.
 -- Assumes nothing.
-use borrow.Author.Rules.{rules}
-use Rattle.octets.proofs.Free.{free}
 use Rattle.queue.proofs.file_next.Goals as goal
 
 pub returns-in-Kept : goal.returns-in-Kept

@@ -1,7 +1,5 @@
 -- `file_record`: the body is cut, and its five parts are filed.
 -- Assumes nothing.
-use borrow.Author.Rules.{rules}
-use Rattle.octets.proofs.Free.{free}
 use Rattle.filing.specs.Filing.{filed_by, filed_of}
 use Rattle.queue.specs.Queues.{body_filing, record_filing, record_filed}
 use Rattle.queue.proofs.file_record.Goals as goal

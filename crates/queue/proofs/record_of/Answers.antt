@@ -5,9 +5,7 @@ use mathlib.Core.List.{List}
 use Prim.Native.Nat.{ℕ, ◌+◌, ◌≤◌}
 use native.Mathlib.Omega.{arith}
 use lib.ListN.{length, drop, length-drop}
-use borrow.Author.Rules.{rules}
 use borrow.Author.Tests.{lt-ltb, le-ltb}
-use Rattle.octets.proofs.Free.{free}
 use Rattle.cutting.specs.Numbers.{leading_number}
 use Rattle.cutting.specs.declared.Number.TheVariants.{Found}
 use Rattle.cutting.proofs.Taken.{Taken, taken}

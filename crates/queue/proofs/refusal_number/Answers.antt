@@ -1,5 +1,4 @@
 use borrow.Author.Tests.{lt-ltb, le-ltb}
-use Rattle.octets.proofs.Free.{free}
 use Rattle.queue.specs.Queues.{queue_refusal}
 use Rattle.queue.proofs.refusal_number.Goals as goal
 

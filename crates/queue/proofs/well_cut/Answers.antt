@@ -1,16 +1,10 @@
 -- `well_cut`: from record to record, up to the end or to where no record stands.
 -- Assumes nothing.
-use Prim.Native.Nat.{ℕ, ◌-◌, ◌≤◌}
 use native.Mathlib.Omega.{arith}
-use mathlib.Core.Path.{◌≡◌, refl, ap, sym, ◌∙◌}
-use mathlib.Core.List.{List}
-use lib.ListN.{length, drop}
-use borrow.Author.Rules.{rules}
-use Rattle.octets.proofs.Free.{free}
-use Rattle.cutting.specs.Cuts.{Cut, cut_of}
-use Rattle.queue.specs.Queues.{Sent, record_step}
+use mathlib.Core.Path.{refl, ap, sym, ◌∙◌}
+use Rattle.cutting.specs.Cuts.{Cut}
+use Rattle.queue.specs.Queues.{Sent}
 use Rattle.queue.proofs.Cuts.{RecordAt, record-at, no-record-at, end-at}
-use Rattle.queue.proofs.well_cut.Invariants.{Inv}
 use Rattle.queue.proofs.well_cut.Goals as goal
 
 pub loop-i-init : goal.loop-i-init

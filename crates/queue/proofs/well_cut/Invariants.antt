@@ -1,15 +1,11 @@
 -- `well_cut`: from record to record, up to the end or to where no record stands.
 -- Assumes nothing.
 use Prim.Native.Nat.{ℕ, ◌-◌, ◌≤◌}
-use native.Mathlib.Omega.{arith}
-use mathlib.Core.Path.{◌≡◌, refl, ap, sym, ◌∙◌}
+use mathlib.Core.Path.{◌≡◌}
 use mathlib.Core.List.{List}
 use lib.ListN.{length, drop}
-use borrow.Author.Rules.{rules}
-use Rattle.octets.proofs.Free.{free}
-use Rattle.cutting.specs.Cuts.{Cut, cut_of}
-use Rattle.queue.specs.Queues.{Sent, record_step}
-use Rattle.queue.proofs.Cuts.{RecordAt, record-at, no-record-at, end-at}
+use Rattle.cutting.specs.Cuts.{cut_of}
+use Rattle.queue.specs.Queues.{record_step}
 use Rattle.queue.proofs.well_cut.Given as goal
 
 pub record Inv (queue : List ℕ) (i : ℕ) : Type 0 where

@@ -1,6 +1,5 @@
 -- `card_line`: the slot, the time, the issue and the template.
 -- Assumes nothing.
-use borrow.Author.Rules.{rules}
 use mir.Syntax.{w32}
 use mir.ValLaws.{to_z-of_z}
 use Rattle.lent.proofs.Written.{and_then}

@@ -1,6 +1,5 @@
 -- `counts_line`: three words and three numbers.
 -- Assumes nothing.
-use borrow.Author.Rules.{rules}
 use Rattle.lent.proofs.Written.{and_then}
 use Rattle.report.specs.Texts.{counts_line}
 use Rattle.report.proofs.counts_line.Goals as goal

@@ -1,6 +1,5 @@
 -- `explain`: filed or refused.
 -- Assumes nothing.
-use borrow.Author.Rules.{rules}
 use Rattle.report.specs.Texts.{explanation_of}
 use Rattle.report.proofs.explain.Goals as goal
 

@@ -1,6 +1,5 @@
 -- `explain_filed`: the heading, the records and the counts.
 -- Assumes nothing.
-use borrow.Author.Rules.{rules}
 use Rattle.lent.proofs.Written.{and_then}
 use Rattle.report.specs.Texts.{filed_explanation}
 use Rattle.report.proofs.explain_filed.Goals as goal

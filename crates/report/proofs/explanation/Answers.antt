@@ -1,6 +1,5 @@
 -- `explanation`: the queue is filed to an empty shelf.
 -- Assumes nothing.
-use borrow.Author.Rules.{rules}
 use Rattle.report.specs.Texts.{explanation}
 use Rattle.report.proofs.explanation.Goals as goal
 

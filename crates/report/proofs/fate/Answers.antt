@@ -1,6 +1,5 @@
 -- `fate`: one of three.
 -- Assumes nothing.
-use borrow.Author.Rules.{rules}
 use Rattle.report.proofs.fate.Goals as goal
 
 pub returns-in-Kept : goal.returns-in-Kept

@@ -1,6 +1,5 @@
 -- `issue_text`: the issue, or that none is named.
 -- Assumes nothing.
-use borrow.Author.Rules.{rules}
 use Rattle.report.proofs.issue_text.Goals as goal
 
 pub returns-in_default : goal.returns-in_default

@@ -1,6 +1,5 @@
 -- `list`: filed or refused.
 -- Assumes nothing.
-use borrow.Author.Rules.{rules}
 use Rattle.report.specs.Texts.{listing_of}
 use Rattle.report.proofs.list.Goals as goal
 

@@ -1,6 +1,5 @@
 -- `list_filed`: the heading, the held slots and the counts.
 -- Assumes nothing.
-use borrow.Author.Rules.{rules}
 use Rattle.lent.proofs.Written.{and_then}
 use Rattle.report.specs.Texts.{filed_listing}
 use Rattle.report.proofs.list_filed.Goals as goal

@@ -1,6 +1,5 @@
 -- `listing`: the queue is filed to an empty shelf.
 -- Assumes nothing.
-use borrow.Author.Rules.{rules}
 use Rattle.report.specs.Texts.{listing}
 use Rattle.report.proofs.listing.Goals as goal
 

@@ -1,6 +1,5 @@
 -- `record_line`: two numbers, the issue and the fate.
 -- Assumes nothing.
-use borrow.Author.Rules.{rules}
 use Rattle.lent.proofs.Written.{and_then}
 use Rattle.report.specs.Texts.{record_line}
 use Rattle.report.proofs.record_line.Goals as goal

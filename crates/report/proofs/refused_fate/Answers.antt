@@ -1,6 +1,5 @@
 -- `refused_fate`: a space and the refusal.
 -- Assumes nothing.
-use borrow.Author.Rules.{rules}
 use Rattle.lent.proofs.Written.{and_then}
 use Rattle.report.proofs.refused_fate.Goals as goal
 

@@ -1,6 +1,5 @@
 -- `refused_line`: the word and the number.
 -- Assumes nothing.
-use borrow.Author.Rules.{rules}
 use Rattle.lent.proofs.Written.{and_then}
 use Rattle.report.specs.Texts.{refused_line}
 use Rattle.report.proofs.refused_line.Goals as goal

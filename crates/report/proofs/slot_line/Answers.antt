@@ -1,6 +1,5 @@
 -- `slot_line`: the line of the card, if one is held.
 -- Assumes nothing.
-use borrow.Author.Rules.{rules}
 use borrow.Author.Tests.{not-true, not-false}
 use Rattle.lent.specs.Written.{append}
 use Rattle.report.specs.Texts.{slot_line}

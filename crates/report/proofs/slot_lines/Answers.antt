@@ -1,15 +1,10 @@
 -- `slot_lines`: slot by slot, what is left to write stands behind what is written.
 -- Assumes nothing.
-use Prim.Native.Nat.{ℕ, ◌-◌}
 use native.Mathlib.Omega.{arith}
 use mathlib.Core.Path.{ap, ◌∙◌}
-use mathlib.Core.List.{List}
-use Rattle.octets.proofs.Free.{free}
 use Rattle.lent.specs.Written.{written, append}
-use Rattle.lent.proofs.Written.{Turns, first-turn, next-turn, last_turn}
-use Rattle.shelf.specs.declared.Shelf.{Shelf}
+use Rattle.lent.proofs.Written.{first-turn, next-turn, last_turn}
 use Rattle.shelf.specs.declared.Slot.{Slot}
-use Rattle.shelf.specs.Shelves.{slot_at}
 use Rattle.report.specs.Texts.{slot_line}
 use Rattle.report.proofs.slot_lines.Invariants.{line_of}
 use Rattle.report.proofs.slot_lines.Goals as goal

@@ -1,6 +1,5 @@
 -- `greater_slot` meets its contract.
 -- Assumes nothing.
-use borrow.Author.Rules.{rules}
 use mathlib.Core.Path.{sym, ◌∙◌}
 use Rattle.card.proofs.Strict.{max-right, max-left}
 use Rattle.shelf.specs.Shelves.{greater_slot}

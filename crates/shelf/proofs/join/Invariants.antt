@@ -1,16 +1,9 @@
 -- `shelf::join` meets its contract.
 -- Assumes nothing.
-use borrow.Author.Rules.{rules}
-use mathlib.Core.Path.{◌≡◌, refl, sym, ap, ◌∙◌}
-use mathlib.Core.List.{List}
-use Prim.Native.Nat.{◌≤◌, ◌<◌, ◌-◌}
-use native.Mathlib.Omega.{arith}
-use native.Mathlib.Numerals.{add-one}
-use lib.ListN.{length}
-use Rattle.shelf.specs.declared.Slot.{Slot}
+use mathlib.Core.Path.{◌≡◌}
+use Prim.Native.Nat.{◌≤◌, ◌-◌}
 use Rattle.shelf.specs.Shelves.{greater_slot}
-use Rattle.octets.proofs.Lists.{unmapped}
-use Rattle.shelf.proofs.Pointwise.{up_to, up_to-suc, up_to-all}
+use Rattle.shelf.proofs.Pointwise.{up_to}
 use Rattle.shelf.proofs.join.Given as goal
 
 abbrev pub invariant-loop-i : goal.invariant-loop-i

@@ -1,7 +1,6 @@
 use mathlib.Core.Path.{ap, ◌∙◌}
 use mir.Syntax.{w32}
 use mir.ValLaws.{to_z-of_z}
-use Rattle.octets.proofs.Free.{free}
 use Rattle.shelf_octets.specs.ShelfOctets.{year_in, card_in}
 use Rattle.shelf_octets.proofs.card_in.Goals as goal
 

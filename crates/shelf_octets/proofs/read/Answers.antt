@@ -2,17 +2,13 @@
 -- Assumes nothing.
 use mathlib.Core.Path.{◌≡◌, ap, sym, ◌∙◌}
 use mathlib.Core.List.{List}
-use Prim.Native.Nat.{◌-◌}
 use native.Mathlib.Omega.{arith}
 use native.Mathlib.Nat.{zero-add}
 use lib.ListN.{length, length-replicate}
-use borrow.Author.Rules.{rules}
-use Rattle.octets.proofs.Free.{free}
-use Rattle.lent.proofs.Rows.{Going, begins, goes_on, ends-whole}
+use Rattle.lent.proofs.Rows.{begins, goes_on, ends-whole}
 use Rattle.shelf.specs.declared.Slot.{Slot}
 use Rattle.shelf.specs.declared.Shelf.{Shelf}
 use Rattle.shelf.specs.Shelves.{blank}
-use Rattle.shelf_octets.specs.ShelfOctets.{slots_in}
 use Rattle.shelf_octets.proofs.Laws.{slots_length}
 use Rattle.shelf_octets.proofs.read.Goals as goal
 

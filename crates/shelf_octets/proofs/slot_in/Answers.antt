@@ -1,6 +1,5 @@
 use mathlib.Core.Path.{ap}
 use borrow.Author.Tests.{eq-eqb, ne_eqb}
-use Rattle.octets.proofs.Free.{free}
 use Rattle.shelf.specs.Shelves.{holding}
 use Rattle.shelf_octets.specs.ShelfOctets.{slot_in}
 use Rattle.shelf_octets.proofs.slot_in.Goals as goal

@@ -1,8 +1,6 @@
 use mathlib.Core.Path.{sym, ap, ◌∙◌}
 use native.Mathlib.Omega.{arith}
 use lib.ListN.{get_or-eq_default}
-use borrow.Author.Rules.{rules}
-use Rattle.octets.proofs.Free.{free}
 use Rattle.shelf.specs.Shelves.{blank}
 use Rattle.shelf_octets.specs.ShelfOctets.{slot_in, slots_in}
 use Rattle.shelf_octets.proofs.Laws.{slot_of, slots_length}

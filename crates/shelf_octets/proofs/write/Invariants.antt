@@ -1,14 +1,10 @@
 -- `write`: slot by slot, what is left to write stands behind what is written.
 -- Assumes nothing.
 use Prim.Native.Nat.{ℕ, ◌-◌}
-use native.Mathlib.Omega.{arith}
-use mathlib.Core.Path.{ap, ◌∙◌}
 use mathlib.Core.List.{List}
-use Rattle.octets.proofs.Free.{free}
-use Rattle.lent.specs.Written.{written, append}
-use Rattle.lent.proofs.Written.{Turns, first-turn, next-turn, last_turn}
+use Rattle.lent.specs.Written.{written}
+use Rattle.lent.proofs.Written.{Turns}
 use Rattle.shelf.specs.declared.Shelf.{Shelf}
-use Rattle.shelf.specs.declared.Slot.{Slot}
 use Rattle.shelf.specs.Shelves.{slot_at}
 use Rattle.shelf_octets.specs.ShelfOctets.{octets_of_slot}
 use Rattle.shelf_octets.proofs.write.Given as goal

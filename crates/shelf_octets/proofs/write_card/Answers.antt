@@ -6,7 +6,6 @@ use borrow.Author.Rules.{rules}
 use mir.Syntax.{w32}
 use mir.ValLaws.{to_z-of_z}
 use Rattle.octets.specs.Octets.{part}
-use Rattle.octets.proofs.Free.{free}
 use Rattle.octets.proofs.Laws.{part-all}
 use Rattle.octets.proofs.Lists.{unmapped}
 use Rattle.lent.specs.Written.{append}

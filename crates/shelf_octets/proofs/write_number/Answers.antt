@@ -4,8 +4,6 @@ use Prim.Native.Nat.{ℕ, ◌/◌, ◌%◌}
 use native.Mathlib.Omega.{arith}
 use mathlib.Core.Path.{◌≡◌, ap}
 use mathlib.Core.List.{[], ◌∷◌}
-use borrow.Author.Rules.{rules}
-use Rattle.octets.proofs.Free.{free}
 use Rattle.octets.specs.Octets.{digits}
 use Rattle.lent.proofs.Written.{and_then}
 use Rattle.shelf_octets.proofs.write_number.Goals as goal

@@ -1,8 +1,6 @@
 -- `write_slot`: 41 zeros, or 1 and the card.
 -- Assumes nothing.
-use borrow.Author.Rules.{rules}
 use borrow.Author.Tests.{not-true, not-false}
-use Rattle.octets.proofs.Free.{free}
 use Rattle.lent.proofs.Written.{and_then}
 use Rattle.shelf_octets.specs.ShelfOctets.{octets_of_slot}
 use Rattle.shelf_octets.proofs.write_slot.Goals as goal

@@ -1,4 +1,3 @@
-use borrow.Author.Rules.{rules}
 use Rattle.shelf_octets.proofs.Years.{difference-fits, year-fits, year-is}
 use Rattle.shelf_octets.proofs.year_in.Goals as goal
 

@@ -7,8 +7,7 @@ use mathlib.Core.Bool.{true, false}
 use mathlib.Core.List.{[], ◌∷◌}
 use lib.ListN.{length}
 use lib.Seq.{length-take-le}
-use borrow.Author.Rules.{rules}
-use borrow.Author.Tests.{le-leb, lt-leb, not-true, not-false}
+use borrow.Author.Tests.{le-leb, lt-leb}
 use Rattle.lent.specs.Lent.{done_both, over}
 use Rattle.lent.specs.Written.{written, append}
 use Rattle.lent.proofs.Written.{starts-within, starts-to, starts-over, starts-front, append-whole}

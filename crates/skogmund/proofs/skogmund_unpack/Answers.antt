@@ -1,6 +1,5 @@
 -- `skogmund_unpack`: what `unpack` answers, as one number.
 -- Assumes nothing.
-use borrow.Author.Rules.{rules}
 use mathlib.Core.Path.{sym, ap, ap₂, ◌∙◌}
 use Rattle.packing.specs.Unpacking.{told_unpacked}
 use Rattle.lent.specs.Lent.{done}

@@ -1,4 +1,3 @@
-use borrow.Author.Rules.{rules}
 use Rattle.text.proofs.Digits.{same_digits, at-most-20}
 use Rattle.text.proofs.number.Goals as goal
 

@@ -1,6 +1,5 @@
 -- `refused`: the word and three numbers.
 -- Assumes nothing.
-use borrow.Author.Rules.{rules}
 use Rattle.lent.proofs.Written.{and_then}
 use Rattle.text.proofs.refused.Goals as goal
 

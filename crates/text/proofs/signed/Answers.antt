@@ -1,4 +1,3 @@
-use borrow.Author.Rules.{rules}
 use Rattle.lent.proofs.Written.{and_then}
 use Rattle.octets.proofs.Signs.{wide-kept, wide_fits}
 use Rattle.text.proofs.Sizes.{negated_fits, negated-kept, size-of-negative, size-of-other, text-of-negative, text-of-other}

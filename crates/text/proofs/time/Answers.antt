@@ -1,6 +1,5 @@
 -- `time`: the year with its space, and five numbers, each with its own.
 -- Assumes nothing.
-use borrow.Author.Rules.{rules}
 use mir.Syntax.{w32}
 use mir.ValLaws.{to_z-of_z}
 use Rattle.lent.proofs.Written.{and_then}

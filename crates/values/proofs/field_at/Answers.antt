@@ -1,6 +1,5 @@
 -- `field_at`: each letter's arm reads its field by its kind, and has its octets.
 -- Assumes nothing.
-use borrow.Author.Rules.{rules}
 use borrow.Author.Tests.{ne_eqb}
 use Prim.Native.Nat.{ℕ}
 use native.Mathlib.Omega.{arith}

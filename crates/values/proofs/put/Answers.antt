@@ -1,6 +1,5 @@
 -- `put`: the numbers, and their count before them.
 -- Assumes nothing.
-use borrow.Author.Rules.{rules}
 use native.Mathlib.Omega.{arith}
 use mathlib.Core.Path.{ap, sym, ◌∙◌}
 use lib.IntN.{pos}

@@ -1,6 +1,6 @@
 -- `put_fields`: what the letters ahead still write, written into the row as it is now, makes the row of all of them.
 -- Assumes nothing.
-use Prim.Native.Nat.{ℕ, suc, ◌+◌, ◌-◌, ◌*◌, ◌≤◌, ◌<◌}
+use Prim.Native.Nat.{ℕ, suc, ◌+◌, ◌<◌}
 use native.Mathlib.Omega.{arith}
 use native.Mathlib.Numerals.{add-one}
 use mathlib.Core.Path.{◌≡◌, refl, sym, ap, ◌∙◌}
@@ -12,7 +12,6 @@ use mir.Syntax.{w64}
 use mir.ValLaws.{to_z-of_z}
 use Rattle.values.specs.Letters.{kind_of, number_by, numbers_by}
 use Rattle.values.proofs.Words.{octets-small}
-use Rattle.values.proofs.put_fields.Invariants.{Going}
 use Rattle.values.proofs.put_fields.Goals as goal
 
 -- the next letter writes its number, and the others follow

@@ -1,17 +1,12 @@
 -- `put_fields`: what the letters ahead still write, written into the row as it is now, makes the row of all of them.
 -- Assumes nothing.
-use Prim.Native.Nat.{ℕ, suc, ◌+◌, ◌-◌, ◌*◌, ◌≤◌, ◌<◌}
-use native.Mathlib.Omega.{arith}
-use native.Mathlib.Numerals.{add-one}
-use mathlib.Core.Path.{◌≡◌, refl, sym, ap, ◌∙◌}
+use Prim.Native.Nat.{ℕ, ◌+◌, ◌-◌, ◌*◌, ◌≤◌}
+use mathlib.Core.Path.{◌≡◌}
 use mathlib.Core.List.{List}
 use lib.IntN.{ℤ}
-use lib.ListN.{length, get_or, set, drop, length-set, drop_of_length-le}
-use lib.Seq.{sets, drop-cons}
-use mir.Syntax.{w64}
-use mir.ValLaws.{to_z-of_z}
-use Rattle.values.specs.Letters.{kind_of, number_by, numbers_by}
-use Rattle.values.proofs.Words.{octets-small}
+use lib.ListN.{length, drop}
+use lib.Seq.{sets}
+use Rattle.values.specs.Letters.{numbers_by}
 use Rattle.values.proofs.put_fields.Given as goal
 
 pub record Going (s letters : List ℕ) (row₀ row : List ℤ) (at i : ℕ) : Type 0 where

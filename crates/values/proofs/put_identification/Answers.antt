@@ -1,6 +1,5 @@
 -- `put_identification`: the row of the template that the length or octets 22-23 name, with the real year.
 -- Assumes nothing.
-use borrow.Author.Rules.{rules}
 use borrow.Author.Tests.{eq-eqb, ne_eqb}
 use Prim.Native.Nat.{ℕ}
 use native.Mathlib.Omega.{arith}

@@ -1,4 +1,3 @@
-use borrow.Author.Rules.{rules}
 use Rattle.octets.proofs.Signs.{wide-kept, wide_fits}
 use Rattle.values.proofs.signed.Goals as goal
 

@@ -1,5 +1,4 @@
-use Rattle.octets.proofs.Free.{free}
-use borrow.Author.Tests.{eq-eqb, ne_eqb, not-true, not-false}
+use borrow.Author.Tests.{eq-eqb, ne_eqb}
 use Rattle.grid.specs.Agreement.{agreed}
 use Rattle.grid.proofs.agreement.agrees.Goals as goal
 

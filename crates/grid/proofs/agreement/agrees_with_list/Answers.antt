@@ -1,4 +1,3 @@
-use Rattle.octets.proofs.Free.{free}
 use borrow.Author.Tests.{le-leb, lt-leb}
 use Rattle.layout.specs.Fields.{between}
 use Rattle.grid.specs.Agreement.{agreed_with_list}

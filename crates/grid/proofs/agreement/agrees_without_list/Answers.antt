@@ -1,4 +1,3 @@
-use Rattle.octets.proofs.Free.{free}
 use borrow.Author.Tests.{eq-eqb, ne_eqb}
 use Rattle.grid.specs.Agreement.{agreed_without_list}
 use Rattle.grid.proofs.agreement.agrees_without_list.Goals as goal

@@ -1,4 +1,3 @@
-use Rattle.octets.proofs.Free.{free}
 use Rattle.grid.proofs.agreement.disagreement.Goals as goal
 
 pub returns-then-agrees : goal.returns-then-agrees

@@ -1,5 +1,3 @@
-use Rattle.octets.proofs.Free.{free}
-use borrow.Author.Tests.{not-true, not-false}
 use Rattle.grid.specs.Agreement.{missing_with}
 use Rattle.grid.proofs.agreement.missing_with.Goals as goal
 

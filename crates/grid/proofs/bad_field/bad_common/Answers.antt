@@ -1,4 +1,3 @@
-use Rattle.octets.proofs.Free.{free}
 use Rattle.layout.specs.Fields.{placed, lowest_bad}
 use Rattle.grid.specs.Blocks.{earth_size, earth, counts, corners, common}
 use Rattle.grid.proofs.bad_field.bad_common.Goals as goal

@@ -1,4 +1,3 @@
-use Rattle.octets.proofs.Free.{free}
 use Rattle.layout.specs.Fields.{placed, lowest_bad}
 use Rattle.grid.specs.Blocks.{grid_head}
 use Rattle.grid.proofs.FieldsByBlock.{bad-by-block}

@@ -1,7 +1,5 @@
-use Rattle.octets.proofs.Free.{free}
 use Rattle.layout.specs.Fields.{placed, lowest_bad}
 use Rattle.grid.specs.Blocks.{pole}
-use borrow.Author.Rules.{rules}
 use Rattle.grid.proofs.bad_field.bad_pole.Goals as goal
 
 pub returns : goal.returns

@@ -1,4 +1,3 @@
-use Rattle.octets.proofs.Free.{free}
 use borrow.Author.Tests.{eq-eqb, ne_eqb}
 use Rattle.grid.proofs.bad_field.bad_width.Goals as goal
 

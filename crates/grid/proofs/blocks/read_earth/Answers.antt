@@ -1,4 +1,3 @@
-use Rattle.octets.proofs.Free.{free}
 use mathlib.Core.List.{◌∷◌, ◌++◌}
 use Rattle.layout.specs.Fields.{placed, values_of, plain}
 use Rattle.grid.specs.Blocks.{earth_size, earth, earth_in}

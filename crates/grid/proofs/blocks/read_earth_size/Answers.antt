@@ -1,8 +1,6 @@
-use Rattle.octets.proofs.Free.{free}
 use mathlib.Core.List.{[], ◌∷◌}
 use Rattle.layout.specs.Fields.{placed, values_of}
 use Rattle.grid.specs.Blocks.{earth_size, earth_size_in}
-use borrow.Author.Rules.{rules}
 use Rattle.grid.proofs.blocks.read_earth_size.Goals as goal
 
 pub returns : goal.returns

@@ -1,10 +1,8 @@
-use Rattle.octets.proofs.Free.{free}
 use Rattle.octets.proofs.Signs.{kept32}
 use mathlib.Core.Path.{◌∙◌}
 use mathlib.Core.List.{[], ◌∷◌}
 use Rattle.layout.specs.Fields.{placed, values_of, plain, is}
 use Rattle.grid.specs.Blocks.{pole, pole_in}
-use borrow.Author.Rules.{rules}
 use Rattle.grid.proofs.blocks.read_pole.Goals as goal
 
 pub returns : goal.returns

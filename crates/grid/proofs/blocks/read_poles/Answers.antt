@@ -1,8 +1,6 @@
-use Rattle.octets.proofs.Free.{free}
 use mathlib.Core.List.{◌∷◌, ◌++◌}
 use Rattle.layout.specs.Fields.{which, placed, values_of}
 use Rattle.grid.specs.Blocks.{pole, poles, no_pole_in, poles_in}
-use borrow.Author.Rules.{rules}
 use Rattle.grid.proofs.blocks.read_poles.Goals as goal
 
 pub returns-in-LatLon : goal.returns-in-LatLon

@@ -1,13 +1,10 @@
-use Rattle.octets.proofs.Free.{free}
-use Prim.Native.Nat.{ℕ, ◌+◌, ◌-◌, ◌*◌, ◌≤◌}
+use Prim.Native.Nat.{ℕ, ◌+◌}
 use Rattle.octets.specs.Octets.{be_at}
-use mathlib.Core.Path.{◌≡◌, refl, ap, ◌∙◌}
-use mathlib.Core.Bool.{true}
+use mathlib.Core.Path.{refl, ap, ◌∙◌}
 use native.Mathlib.Nat.{mul-add, mul-zero, mul-one}
 use native.Mathlib.Numerals.{add-one}
 use native.Mathlib.Omega.{arith}
 use borrow.Author.Rules.{rules}
-use Rattle.grid.specs.Blocks.{has_list}
 use Rattle.grid.specs.Points.{sum_of}
 use Rattle.grid.proofs.points.list_sum.Goals as goal
 

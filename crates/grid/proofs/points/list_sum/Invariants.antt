@@ -1,12 +1,6 @@
-use Rattle.octets.proofs.Free.{free}
-use Prim.Native.Nat.{ℕ, ◌+◌, ◌-◌, ◌*◌, ◌≤◌}
-use Rattle.octets.specs.Octets.{be_at}
-use mathlib.Core.Path.{◌≡◌, refl, ap, ◌∙◌}
+use Prim.Native.Nat.{◌+◌, ◌-◌, ◌*◌, ◌≤◌}
+use mathlib.Core.Path.{◌≡◌}
 use mathlib.Core.Bool.{true}
-use native.Mathlib.Nat.{mul-add, mul-zero, mul-one}
-use native.Mathlib.Numerals.{add-one}
-use native.Mathlib.Omega.{arith}
-use borrow.Author.Rules.{rules}
 use Rattle.grid.specs.Blocks.{has_list}
 use Rattle.grid.specs.Points.{sum_of}
 use Rattle.grid.proofs.points.list_sum.Given as goal

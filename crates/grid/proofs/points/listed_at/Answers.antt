@@ -1,8 +1,6 @@
-use Rattle.octets.proofs.Free.{free}
 use Prim.Native.Nat.{ℕ}
 use mathlib.Core.Path.{◌≡◌}
 use native.Mathlib.Omega.{arith}
-use borrow.Author.Rules.{rules}
 use Rattle.grid.proofs.Widths.{no-list}
 use Rattle.grid.proofs.points.listed_at.Goals as goal
 

@@ -1,5 +1,3 @@
-use Rattle.octets.proofs.Free.{free}
-use borrow.Author.Rules.{rules}
 use borrow.Author.Tests.{eq-eqb, ne_eqb}
 use Rattle.layout.specs.Outcomes.{first_refusal}
 use Rattle.grid.proofs.points.points_refusal.Goals as goal

@@ -1,7 +1,5 @@
-use Rattle.octets.proofs.Free.{free}
 use native.Mathlib.Nat.{mul-le-mul_right}
 use native.Mathlib.Omega.{arith}
-use borrow.Author.Rules.{rules}
 use borrow.Author.Tests.{eq-eqb, ne_eqb}
 use Rattle.grid.specs.Points.{points_without_list}
 use Rattle.grid.proofs.points.points_without_list.Goals as goal

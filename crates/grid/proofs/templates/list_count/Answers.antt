@@ -1,4 +1,3 @@
-use Rattle.octets.proofs.Free.{free}
 use borrow.Author.Tests.{eq-eqb, ne_eqb}
 use Rattle.grid.specs.Templates.{list_count}
 use Rattle.grid.proofs.templates.list_count.Goals as goal

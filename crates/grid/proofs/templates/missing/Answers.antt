@@ -1,4 +1,3 @@
-use Rattle.octets.proofs.Free.{free}
 use Rattle.grid.proofs.templates.missing.Goals as goal
 
 pub returns : goal.returns

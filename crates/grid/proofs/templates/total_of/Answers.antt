@@ -1,8 +1,6 @@
-use Rattle.octets.proofs.Free.{free}
 use Prim.Native.Nat.{◌+◌, ◌*◌, ◌≤◌}
 use native.Mathlib.Nat.{mul-le-mul_right}
 use native.Mathlib.Omega.{arith}
-use borrow.Author.Rules.{rules}
 use Rattle.grid.proofs.Widths.{base-between}
 use Rattle.grid.proofs.templates.total_of.Goals as goal
 

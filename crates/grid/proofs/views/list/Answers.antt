@@ -1,4 +1,3 @@
-use Rattle.octets.proofs.Free.{free}
 use Rattle.grid.proofs.views.list.Goals as goal
 
 pub returns : goal.returns

@@ -1,10 +1,8 @@
-use Rattle.octets.proofs.Free.{free}
 use native.Mathlib.Nat.{add-sub_cancel_left}
 use Rattle.layout.specs.Outcomes.{if_read}
 use Rattle.layout.proofs.Outcomes.{answer-is}
 use Rattle.grid.specs.Section3.{told}
 use Rattle.grid.specs.Views.{list_span}
-use borrow.Author.Rules.{rules}
 use Rattle.grid.proofs.views.list_span.Goals as goal
 
 pub returns-in_default : goal.returns-in_default

@@ -1,10 +1,8 @@
-use Rattle.octets.proofs.Free.{free}
 use mathlib.Core.Path.{◌∙◌}
 use Rattle.layout.specs.Fields.{lowest_bad, placed}
 use Rattle.layout.specs.Time.{time}
 use Rattle.layout.proofs.Blocks.{bad-moved}
 use Rattle.product.specs.Blocks.{interval}
-use borrow.Author.Rules.{rules}
 use Rattle.product.proofs.bad_field.bad_end.Goals as goal
 
 pub returns : goal.returns

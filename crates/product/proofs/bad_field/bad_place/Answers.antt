@@ -1,8 +1,6 @@
-use Rattle.octets.proofs.Free.{free}
 use Rattle.layout.specs.Fields.{lowest_bad, placed}
 use Rattle.product.proofs.FieldsByBlock.{bad-is}
 use Rattle.product.specs.Blocks.{process, forecast, scaled, surface, common}
-use borrow.Author.Rules.{rules}
 use Rattle.product.proofs.bad_field.bad_place.Goals as goal
 
 pub returns-then-timed : goal.returns-then-timed

@@ -1,9 +1,7 @@
-use Rattle.octets.proofs.Free.{free}
 use mathlib.Core.List.{◌∷◌}
 use Rattle.layout.specs.Fields.{values_of, placed, plain}
 use Rattle.product.proofs.FieldsByBlock.{both-scaled}
 use Rattle.product.specs.Blocks.{scaled, aerosol, aerosol_in}
-use borrow.Author.Rules.{rules}
 use Rattle.product.proofs.blocks.read_aerosol.Goals as goal
 
 pub returns : goal.returns

@@ -1,8 +1,6 @@
-use Rattle.octets.proofs.Free.{free}
 use mathlib.Core.List.{◌∷◌, []}
 use Rattle.layout.specs.Fields.{values_of, placed, plain}
 use Rattle.product.specs.Blocks.{cluster, cluster_in}
-use borrow.Author.Rules.{rules}
 use Rattle.product.proofs.blocks.read_cluster.Goals as goal
 
 pub returns : goal.returns

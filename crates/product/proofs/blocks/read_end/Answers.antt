@@ -1,11 +1,9 @@
-use Rattle.octets.proofs.Free.{free}
 use mathlib.Core.List.{◌∷◌, [], ◌++◌}
 use mathlib.Core.Path.{◌∙◌}
 use Rattle.layout.specs.Fields.{values_of, placed, plain}
 use Rattle.layout.proofs.Blocks.{moved}
 use Rattle.layout.specs.Time.{time}
 use Rattle.product.specs.Blocks.{interval, end_in}
-use borrow.Author.Rules.{rules}
 use Rattle.product.proofs.blocks.read_end.Goals as goal
 
 pub returns : goal.returns

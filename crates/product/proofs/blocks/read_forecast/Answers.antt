@@ -1,10 +1,8 @@
-use Rattle.octets.proofs.Free.{free}
 use mathlib.Core.List.{◌∷◌, []}
 use mathlib.Core.Path.{◌∙◌}
 use Rattle.octets.proofs.Signs.{kept32}
 use Rattle.layout.specs.Fields.{values_of, placed, plain, is}
 use Rattle.product.specs.Blocks.{forecast, forecast_in}
-use borrow.Author.Rules.{rules}
 use Rattle.product.proofs.blocks.read_forecast.Goals as goal
 
 pub returns : goal.returns

@@ -1,4 +1,3 @@
-use Rattle.octets.proofs.Free.{free}
 use Rattle.product.specs.Blocks.{interval_in}
 use Rattle.product.proofs.blocks.read_interval.Goals as goal
 

@@ -1,9 +1,7 @@
-use Rattle.octets.proofs.Free.{free}
 use mathlib.Core.Path.{refl}
 use Rattle.layout.specs.Fields.{values_of, placed}
 use Rattle.product.specs.Blocks.{tag_in, ahead_in, behind_in}
 use Rattle.product.specs.Templates.{ahead, behind}
-use borrow.Author.Rules.{rules}
 use Rattle.product.proofs.blocks.read_part.Goals as goal
 
 pub returns-in-None : goal.returns-in-None

@@ -1,8 +1,6 @@
-use Rattle.octets.proofs.Free.{free}
 use mathlib.Core.List.{◌∷◌, []}
 use Rattle.layout.specs.Fields.{values_of, placed}
 use Rattle.product.specs.Blocks.{scaled, scaled_in}
-use borrow.Author.Rules.{rules}
 use Rattle.product.proofs.blocks.read_scaled.Goals as goal
 
 pub returns : goal.returns

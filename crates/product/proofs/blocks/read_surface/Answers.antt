@@ -1,10 +1,8 @@
-use Rattle.octets.proofs.Free.{free}
 use mathlib.Core.List.{◌∷◌}
 use mathlib.Core.Path.{◌∙◌}
 use Rattle.layout.specs.Fields.{values_of, placed, plain}
 use Rattle.layout.proofs.Blocks.{moved}
 use Rattle.product.specs.Blocks.{scaled, surface, surface_in}
-use borrow.Author.Rules.{rules}
 use Rattle.product.proofs.blocks.read_surface.Goals as goal
 
 pub returns : goal.returns

@@ -1,10 +1,8 @@
-use Rattle.octets.proofs.Free.{free}
 use mathlib.Core.List.{◌∷◌, ◌++◌}
 use native.Mathlib.Omega.{arith}
 use Rattle.layout.specs.Fields.{which, plain, placed, values_of}
 use Rattle.product.specs.Blocks.{head, values_in}
 use Rattle.product.proofs.FieldsByBlock.{front-small, common-values, values-are}
-use borrow.Author.Rules.{rules}
 use Rattle.product.proofs.blocks.record_of.Goals as goal
 
 pub overflow_add-end-2 : goal.overflow_add-end-2

@@ -1,5 +1,3 @@
-use Rattle.octets.proofs.Free.{free}
-use borrow.Author.Rules.{rules}
 use Rattle.product.proofs.templates.member_count.Goals as goal
 
 pub returns-in-Cluster : goal.returns-in-Cluster

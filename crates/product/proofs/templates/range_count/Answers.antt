@@ -1,6 +1,4 @@
-use Rattle.octets.proofs.Free.{free}
 use Rattle.product.specs.Templates.{ranges_at}
-use borrow.Author.Rules.{rules}
 use Rattle.product.proofs.templates.range_count.Goals as goal
 
 pub returns-then-timed : goal.returns-then-timed

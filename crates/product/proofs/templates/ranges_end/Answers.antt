@@ -1,6 +1,4 @@
-use Rattle.octets.proofs.Free.{free}
 use Rattle.product.specs.Templates.{ranges_end}
-use borrow.Author.Rules.{rules}
 use Rattle.product.proofs.templates.ranges_end.Goals as goal
 
 pub returns-then-timed : goal.returns-then-timed

@@ -1,4 +1,3 @@
-use Rattle.octets.proofs.Free.{free}
 use Rattle.product.proofs.views.coordinate_list.Goals as goal
 
 pub returns : goal.returns

@@ -1,7 +1,5 @@
-use Rattle.octets.proofs.Free.{free}
 use native.Mathlib.Omega.{arith}
 use Rattle.product.specs.Views.{range_by, members_by, coordinates_by}
-use borrow.Author.Rules.{rules}
 use borrow.Author.Tests.{le-ltb}
 use Rattle.product.proofs.views.lists_read.Goals as goal
 

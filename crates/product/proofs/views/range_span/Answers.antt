@@ -1,6 +1,4 @@
-use Rattle.octets.proofs.Free.{free}
 use borrow.Author.Tests.{le-ltb, lt-ltb}
-use borrow.Author.Rules.{rules}
 use Rattle.product.proofs.views.range_span.Goals as goal
 
 pub returns-then-lists-k : goal.returns-then-lists-k

@@ -1,8 +1,6 @@
-use Rattle.octets.proofs.Free.{free}
 use Rattle.layout.specs.Outcomes.{if_read}
 use Rattle.product.specs.Section4.{told}
 use Rattle.layout.proofs.Outcomes.{answer-is}
-use borrow.Author.Rules.{rules}
 use Rattle.product.proofs.views.template_read.Goals as goal
 
 pub returns-in_default : goal.returns-in_default

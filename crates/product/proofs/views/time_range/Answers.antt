@@ -1,4 +1,3 @@
-use Rattle.octets.proofs.Free.{free}
 use Rattle.product.proofs.views.time_range.Goals as goal
 
 pub returns : goal.returns

@@ -1,6 +1,5 @@
 -- `shelf::Shelf::empty` meets its contract.
 -- Assumes nothing.
-use borrow.Author.Rules.{rules}
 use Rattle.shelf.proofs.Shelf.empty.Goals as goal
 
 pub returns : goal.returns

@@ -2,7 +2,6 @@
 -- Assumes nothing.
 use mathlib.Core.Path.{◌∙◌}
 use mathlib.Core.List.{[], ◌∷◌}
-use borrow.Author.Rules.{rules}
 use Rattle.skogmund.proofs.Spans.{part-written}
 use Rattle.skogmund.proofs.messages.write_field.Goals as goal
 

@@ -1,12 +1,9 @@
 -- `skogmund_part`: a part is within the section, so that the number of its first octet has room.
 -- Assumes nothing.
 use native.Mathlib.Omega.{arith}
-use Prim.Native.Nat.{ℕ}
 use mathlib.Core.Path.{ap}
 use mathlib.Core.Bool.{true, false}
-use mathlib.Core.List.{List, [], ◌∷◌}
-use borrow.Author.Rules.{rules}
-use borrow.Author.Tests.{not-true, not-false}
+use mathlib.Core.List.{[], ◌∷◌}
 use Rattle.lent.specs.Lent.{done}
 use Rattle.lent.proofs.Answers.{room-said}
 use Rattle.skogmund.specs.Entries.{no_room}

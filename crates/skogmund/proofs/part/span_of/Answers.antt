@@ -1,4 +1,3 @@
-use borrow.Author.Rules.{rules}
 use borrow.Author.Tests.{ne_eqb}
 use Rattle.skogmund.specs.Parts.{part_span}
 use Rattle.skogmund.proofs.part.span_of.Goals as goal

@@ -2,9 +2,7 @@
 -- Assumes nothing.
 use mathlib.Core.Path.{ap, ap₂}
 use mathlib.Core.Bool.{true, false}
-use borrow.Author.Rules.{rules}
-use borrow.Author.Tests.{eq-eqb, ne_eqb, not-true, not-false}
-use Rattle.octets.proofs.Free.{free}
+use borrow.Author.Tests.{eq-eqb, ne_eqb}
 use Rattle.lent.specs.Lent.{done_both}
 use Rattle.lent.proofs.Answers.{room-said}
 use Rattle.shelf_octets.proofs.Laws.{written_over}

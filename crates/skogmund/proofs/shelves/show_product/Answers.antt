@@ -1,6 +1,6 @@
 -- `show_product`: the octets that are left, written into the row as it is now, make the row of all.
 -- Assumes nothing.
-use Prim.Native.Nat.{◌+◌, ◌-◌}
+use Prim.Native.Nat.{◌+◌}
 use native.Mathlib.Omega.{arith}
 use mathlib.Core.Path.{◌≡◌, refl, sym, ap, ◌∙◌}
 use mathlib.Core.List.{List, map}
@@ -11,9 +11,8 @@ use mir.Syntax.{w64}
 use mir.ValLaws.{to_z-of_z}
 use borrow.Author.Rules.{rules}
 use Rattle.octets.specs.Octets.{part}
-use Rattle.octets.proofs.Free.{free}
 use Rattle.octets.proofs.Laws.{part-all}
-use Rattle.lent.proofs.Rows.{Going, begins, goes_on, ends}
+use Rattle.lent.proofs.Rows.{begins, goes_on, ends}
 use Rattle.skogmund.proofs.shelves.show_product.Goals as goal
 
 pub bounds-values-i : goal.bounds-values-i

@@ -7,7 +7,6 @@ use mathlib.Core.List.{List, [], ◌∷◌, map}
 use lib.IntN.{ℤ, pos}
 use lib.ListN.{length-set}
 use lib.Seq.{sets}
-use borrow.Author.Rules.{rules}
 use borrow.Author.Tests.{not-true, not-false}
 use mir.Syntax.{w64}
 use mir.ValLaws.{to_z_pos}

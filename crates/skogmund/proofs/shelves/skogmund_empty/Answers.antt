@@ -1,9 +1,7 @@
 -- `skogmund_empty`: 2,624 zeros, or 18.
 -- Assumes nothing.
 use mathlib.Core.Path.{ap, ◌∙◌}
-use borrow.Author.Rules.{rules}
 use borrow.Author.Tests.{eq-eqb, ne_eqb}
-use Rattle.octets.proofs.Free.{free}
 use Rattle.shelf_octets.specs.ShelfOctets.{as_octets}
 use Rattle.shelf_octets.proofs.Laws.{empty-zeros, written_over}
 use Rattle.lent.specs.Lent.{done}

@@ -1,9 +1,7 @@
 -- `skogmund_join`: both are read, joined and written, or 18.
 -- Assumes nothing.
 use mathlib.Core.Path.{ap, ap₂, ◌∙◌}
-use borrow.Author.Rules.{rules}
 use borrow.Author.Tests.{eq-eqb, ne_eqb}
-use Rattle.octets.proofs.Free.{free}
 use Rattle.shelf.specs.Shelves.{join_shelf}
 use Rattle.shelf_octets.specs.ShelfOctets.{as_octets}
 use Rattle.lent.specs.Lent.{done}

@@ -1,9 +1,7 @@
 -- `skogmund_slot`: 16, 18, or what the slot holds.
 -- Assumes nothing.
 use mathlib.Core.Path.{ap, ◌∙◌}
-use borrow.Author.Rules.{rules}
 use borrow.Author.Tests.{lt-ltb, le-ltb, eq-eqb, ne_eqb, le-leb, lt-leb}
-use Rattle.octets.proofs.Free.{free}
 use Rattle.shelf.specs.declared.Slot.{Slot}
 use Rattle.lent.specs.Lent.{done, with_count}
 use Rattle.skogmund.specs.Shelves.{slot_numbers, slot_shown}

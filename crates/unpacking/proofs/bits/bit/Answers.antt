@@ -2,7 +2,6 @@
 -- Assumes nothing.
 use mathlib.Core.Path.{sym}
 use native.Mathlib.Omega.{arith}
-use borrow.Author.Rules.{rules}
 use Rattle.unpacking.proofs.Runs.{bit-of, bit_past}
 use Rattle.unpacking.proofs.bits.bit.Goals as goal
 

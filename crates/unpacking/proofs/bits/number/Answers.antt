@@ -1,15 +1,10 @@
 -- `number`: after w turns the value is the first w bits.
 -- Assumes nothing.
 use mathlib.Core.Path.{◌≡◌, refl}
-use mathlib.Core.Logic.{⊎_elim}
-use mathlib.Core.List.{List}
-use Prim.Native.Nat.{ℕ, ◌+◌, ◌-◌, ◌*◌, ◌≤◌, ◌<◌}
+use Prim.Native.Nat.{◌+◌, ◌*◌}
 use native.Mathlib.Omega.{arith}
-use native.Mathlib.Nat.{le_of_suc-le-suc}
-use lib.Arith.{lt_of_le-ne}
 use Rattle.unpacking.specs.Packed.{bits_from, bit_at}
 use Rattle.unpacking.proofs.Runs.{bits-next, bits-under}
-use Rattle.unpacking.proofs.bits.number.Invariants.{Going}
 use Rattle.unpacking.proofs.bits.number.Goals as goal
 use Rattle.unpacking.proofs.bits.number.Goals.{then-k-eq7, else-k-eq7}
 

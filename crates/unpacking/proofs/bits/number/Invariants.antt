@@ -1,14 +1,9 @@
 -- `number`: after w turns the value is the first w bits.
 -- Assumes nothing.
-use mathlib.Core.Path.{◌≡◌, refl}
-use mathlib.Core.Logic.{⊎_elim}
+use mathlib.Core.Path.{◌≡◌}
 use mathlib.Core.List.{List}
 use Prim.Native.Nat.{ℕ, ◌+◌, ◌-◌, ◌*◌, ◌≤◌, ◌<◌}
-use native.Mathlib.Omega.{arith}
-use native.Mathlib.Nat.{le_of_suc-le-suc}
-use lib.Arith.{lt_of_le-ne}
-use Rattle.unpacking.specs.Packed.{bits_from, bit_at}
-use Rattle.unpacking.proofs.Runs.{bits-next, bits-under}
+use Rattle.unpacking.specs.Packed.{bits_from}
 use Rattle.unpacking.proofs.bits.number.Given as goal
 
 pub record Going (xs : List ℕ) (bits from value here k w : ℕ) : Type 0 where

@@ -1,16 +1,12 @@
 -- `unpack_bits`: after each turn one place more is written, and the cursor stands before the next number.
 -- Assumes nothing.
-use mathlib.Core.Path.{◌≡◌, ◌∙◌, refl, sym, ap}
+use mathlib.Core.Path.{◌≡◌}
 use mathlib.Core.List.{List}
 use Prim.Native.Nat.{ℕ, ◌+◌, ◌-◌, ◌*◌, ◌≤◌, ◌<◌}
-use native.Mathlib.Nat.{mul-le-mul_left}
-use native.Mathlib.Omega.{arith}
-use lib.ListN.{length, length-set}
-use Rattle.lent.proofs.Rows.{Filled, all-filled, filled-set}
-use Rattle.unpacking.specs.Packed.{bits_from, packed_at, unpacked}
+use lib.ListN.{length}
+use Rattle.lent.proofs.Rows.{Filled}
+use Rattle.unpacking.specs.Packed.{packed_at}
 use Rattle.unpacking.specs.declared.bits.Cursor.{Cursor}
-use Rattle.unpacking.proofs.Runs.{next_place}
-use Rattle.unpacking.proofs.Filled.{narrow, wide}
 use Rattle.unpacking.proofs.bits.unpack_bits.Given as goal
 
 pub record Going (bits : ℕ) (xs row₀ row : List ℕ) (i : ℕ) (c : Cursor) : Type 0 where

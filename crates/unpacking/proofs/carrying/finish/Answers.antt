@@ -1,10 +1,8 @@
 -- `finish`: each turn writes one number more, until the row has no place left.
 -- Assumes nothing.
-use mathlib.Core.Path.{◌≡◌, refl}
-use Prim.Native.Nat.{◌-◌}
+use mathlib.Core.Path.{refl}
 use native.Mathlib.Omega.{arith}
 use lib.ListN.{length}
-use Rattle.unpacking.specs.Standing.{Stands}
 use Rattle.unpacking.proofs.Carried.{ends}
 use Rattle.unpacking.proofs.carrying.finish.Goals as goal
 

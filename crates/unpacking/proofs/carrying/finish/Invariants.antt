@@ -1,11 +1,9 @@
 -- `finish`: each turn writes one number more, until the row has no place left.
 -- Assumes nothing.
-use mathlib.Core.Path.{◌≡◌, refl}
+use mathlib.Core.Path.{◌≡◌}
 use Prim.Native.Nat.{◌-◌}
-use native.Mathlib.Omega.{arith}
 use lib.ListN.{length}
 use Rattle.unpacking.specs.Standing.{Stands}
-use Rattle.unpacking.proofs.Carried.{ends}
 use Rattle.unpacking.proofs.carrying.finish.Given as goal
 
 abbrev pub invariant-loop-run : goal.invariant-loop-run

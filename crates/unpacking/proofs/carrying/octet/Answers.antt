@@ -2,7 +2,6 @@
 -- Assumes nothing.
 use mathlib.Core.Path.{sym}
 use lib.ListN.{get_or-eq_default}
-use borrow.Author.Rules.{rules}
 use Rattle.unpacking.proofs.carrying.octet.Goals as goal
 
 pub returns-else-at-packed : goal.returns-else-at-packed

@@ -1,12 +1,7 @@
 -- `step`: octets are held until they have the number's bits; what parts it from the bits behind it is a power of two.
 -- Assumes nothing.
-use mathlib.Core.Path.{refl}
 use Prim.Native.Nat.{◌+◌, ◌-◌, ◌<◌}
-use native.Mathlib.Nat.{mul-le-mul_left}
-use native.Mathlib.Omega.{arith}
-use lib.ListN.{length-set}
 use Rattle.unpacking.specs.Standing.{Holds}
-use Rattle.unpacking.proofs.Carried.{octet-in, room, weight-positive, number_fits, number-out}
 use Rattle.unpacking.proofs.carrying.step.Given as goal
 
 abbrev pub invariant-loop-left : goal.invariant-loop-left

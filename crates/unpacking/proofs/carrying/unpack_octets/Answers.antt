@@ -1,7 +1,6 @@
 -- `unpack_octets`: what is left of a run that has just begun is all of it.
 -- Assumes nothing.
 use mathlib.Core.Path.{◌∙◌, sym}
-use borrow.Author.Rules.{rules}
 use Rattle.unpacking.proofs.Carried.{begins}
 use Rattle.unpacking.proofs.Filled.{narrow, wide}
 use Rattle.unpacking.proofs.carrying.unpack_octets.Goals as goal

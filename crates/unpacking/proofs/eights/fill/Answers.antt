@@ -2,7 +2,6 @@
 -- Assumes nothing.
 use mathlib.Core.Path.{refl}
 use native.Mathlib.Omega.{arith}
-use borrow.Author.Rules.{rules}
 use Rattle.unpacking.proofs.Carried.{room, octet-in}
 use Rattle.unpacking.proofs.eights.fill.Goals as goal
 

@@ -1,15 +1,10 @@
 -- `group`: each turn writes one number more, of octets that are there.
 -- Assumes nothing.
-use mathlib.Core.Path.{◌≡◌, refl}
-use mathlib.Core.List.{List}
-use Prim.Native.Nat.{ℕ, ◌+◌, ◌-◌, ◌≤◌}
+use mathlib.Core.Path.{refl}
+use Prim.Native.Nat.{◌+◌, ◌≤◌}
 use native.Mathlib.Nat.{mul-le-mul_right}
 use native.Mathlib.Omega.{arith}
-use lib.ListN.{length}
-use Rattle.unpacking.specs.Standing.{Stands}
-use Rattle.unpacking.specs.declared.carrying.Run.{Run}
 use Rattle.unpacking.proofs.Runs.{next_place}
-use Rattle.unpacking.proofs.eights.group.Invariants.{Going}
 use Rattle.unpacking.proofs.eights.group.Goals as goal
 
 pub loop-run-init : goal.loop-run-init

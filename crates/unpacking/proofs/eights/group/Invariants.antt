@@ -1,14 +1,11 @@
 -- `group`: each turn writes one number more, of octets that are there.
 -- Assumes nothing.
-use mathlib.Core.Path.{◌≡◌, refl}
+use mathlib.Core.Path.{◌≡◌}
 use mathlib.Core.List.{List}
-use Prim.Native.Nat.{ℕ, ◌+◌, ◌-◌, ◌≤◌}
-use native.Mathlib.Nat.{mul-le-mul_right}
-use native.Mathlib.Omega.{arith}
+use Prim.Native.Nat.{ℕ, ◌-◌, ◌≤◌}
 use lib.ListN.{length}
 use Rattle.unpacking.specs.Standing.{Stands}
 use Rattle.unpacking.specs.declared.carrying.Run.{Run}
-use Rattle.unpacking.proofs.Runs.{next_place}
 use Rattle.unpacking.proofs.eights.group.Given as goal
 
 pub record Going (width : ℕ) (xs row₀ row : List ℕ) (end : ℕ) (run : Run) : Type 0 where

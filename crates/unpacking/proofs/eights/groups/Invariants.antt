@@ -1,15 +1,11 @@
 -- `groups`: a group begins and ends with an octet, so nothing is carried from one to the next.
 -- Assumes nothing.
-use mathlib.Core.Path.{◌≡◌, refl, subst}
+use mathlib.Core.Path.{◌≡◌}
 use mathlib.Core.List.{List}
-use Prim.Native.Nat.{ℕ, ◌+◌, ◌-◌, ◌*◌, ◌≤◌}
-use native.Mathlib.Nat.{add-mul}
-use native.Mathlib.Omega.{arith}
+use Prim.Native.Nat.{ℕ, ◌-◌, ◌≤◌}
 use lib.ListN.{length}
-use borrow.Author.Tests.{leb-true}
 use Rattle.unpacking.specs.Standing.{Stands}
 use Rattle.unpacking.specs.declared.carrying.Run.{Run}
-use Rattle.unpacking.proofs.Carried.{at-octet, begins}
 use Rattle.unpacking.proofs.eights.groups.Given as goal
 
 pub record Going (width : ℕ) (xs row₀ row : List ℕ) (run : Run) : Type 0 where

@@ -5,7 +5,6 @@ use mathlib.Core.List.{[], ◌∷◌}
 use Prim.Native.Nat.{ℕ, ◌+◌, ◌-◌, ◌^◌, ◌<◌}
 use native.Mathlib.Omega.{arith}
 use lib.ListN.{length, get_or}
-use borrow.Author.Rules.{rules}
 use Rattle.unpacking.specs.Standing.{First}
 use Rattle.unpacking.proofs.Carried.{weight-positive, number_fits, number-out}
 use Rattle.unpacking.proofs.Full.{still-ready, Full, full, eight-powers}

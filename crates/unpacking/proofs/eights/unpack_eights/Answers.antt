@@ -1,7 +1,6 @@
 -- `unpack_eights`: a run that has written its groups is finished.
 -- Assumes nothing.
 use mathlib.Core.Path.{◌∙◌, sym}
-use borrow.Author.Rules.{rules}
 use Rattle.lent.proofs.Rows.{to_the_end}
 use Rattle.unpacking.specs.Packed.{unpacked}
 use Rattle.unpacking.proofs.Filled.{narrow, wide}

@@ -1,4 +1,3 @@
-use Rattle.octets.proofs.Free.{free}
 use mathlib.Core.Path.{ap, ◌∙◌}
 use mathlib.Core.List.{◌∷◌, ◌++◌}
 use Rattle.layout.specs.Fields.{placed, after, values_of, plain}
