@@ -2,7 +2,7 @@
 // compared with what document 01 says. A line of input is `SECTION LENGTH OCTETS`: the reader to ask, the length of the
 // section to lend it, and its octets in hexadecimal, of which the last stands for the rest; printed are the row of its values and the
 // parts (`sections`). For unpacking it is `7 LENGTH OCTETS / LENGTH OCTETS / PLACES`: section 5, section 7, and the places of the row,
-// each of which holds 9 before (`unpacking`). A line that starts with `#` is printed as it is. Lines that start with a letter file fields
+// each of which holds 9 before (`unpacked`). A line that starts with `#` is printed as it is. Lines that start with a letter file fields
 // and join shelves (`shelves`), but for `q LENGTH OCTETS`: a queue, of which the listing and the explanation are printed (`queues`), and
 // `m LENGTH OCTETS`: a message, whose contents are printed (`messages`).
 #![tactic(auto)]
@@ -23,7 +23,7 @@ mod print;
 mod queues;
 mod sections;
 mod shelves;
-mod unpacking;
+mod unpacked;
 
 fn main(rt: HostRuntime) -> io::Result<()> {
     let mut room = input_buffer(rt.alloc())?;
@@ -94,7 +94,7 @@ fn run_unpacking(out: &mut Output, line: &[u8]) -> io::Result<()> {
     let n7 = lines::section_in(behind_5, &mut room_7);
     let places = lines::decimal(lines::word(lines::behind(lines::behind(behind_5, b'/'), b' ')));
     let mut row = row_buffer();
-    unpacking::show(
+    unpacked::show(
         out,
         octets::part_after(&room_5, 0, n5),
         octets::part_after(&room_7, 0, n7),

@@ -1,5 +1,5 @@
 use Rattle.std.proofs.Common.{◌<◌, ◌^◌, ◌-◌, length}
-use Rattle.cases.proofs.unpacking.digest.Given as goal
+use Rattle.cases.proofs.unpacked.digest.Given as goal
 
 abbrev pub invariant-loop-i : goal.invariant-loop-i
 invariant-loop-i l = l.sum < 2 ^ 32
