@@ -83,7 +83,7 @@ pub fn file<'s, 'a>(
     section5: &'a [u8],
     section7: &'a [u8],
 ) -> Answer
-    ensures { record { shelf = shelf.exit.now; answer = result } ≡ filed_of shelf.entry.now slot issue section1.now section3.now section4.now section5.now section7.now }
+    ensures { record { shelf = shelf.new; answer = result } ≡ filed_of shelf.old slot issue section1.now section3.now section4.now section5.now section7.now }
 {
     let done = file_by_value(
         *shelf, slot, issue, section1, section3, section4, section5, section7,
