@@ -1,5 +1,7 @@
 // What the program `fields` prints of a message: its fields, and where in it their sections stand. Each function writes into a lent buffer, as
 // far as there is room, and answers the index after what it wrote.
+#![tactic(auto)]
+
 ghost use Rattle.std.specs.Prelude.{◌≡◌, [], ◌∷◌, ◌++◌, ℕ, ◌+◌, ◌<◌, ◌^◌, length, replicate};
 ghost use Rattle.lent.specs.Written.{written, append, starts_with};
 ghost use Rattle.identification.specs.Section1.{outcome₁};

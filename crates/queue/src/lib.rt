@@ -1,4 +1,6 @@
 // Queues: how one is cut into records and their bodies into sections, and filing one, record by record.
+#![tactic(auto)]
+
 ghost use Rattle.std.specs.Prelude.{◌≡◌, ◌^◌, ◌<◌};
 ghost use Rattle.cutting.specs.Cuts.{cut_of};
 ghost use Rattle.queue.specs.Records.{record_of};

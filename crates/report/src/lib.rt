@@ -1,5 +1,7 @@
 // What the two programs print of a queue that is filed to an empty shelf: the listing of what is then held, and the explanation of what
 // became of each record. Each function writes into a lent buffer, as far as there is room, and answers the index after what it wrote.
+#![tactic(auto)]
+
 ghost use Rattle.std.specs.Prelude.{◌≡◌, length, replicate};
 ghost use Rattle.octets.specs.Octets.{be_at};
 ghost use Rattle.cutting.specs.Cuts.{cut_of};

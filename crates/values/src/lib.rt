@@ -1,6 +1,8 @@
 // The record of a section as numbers, those of its fields in a lent row. A template's fields are a word, a letter for each:
 //   1 2 4  unsigned, of so many octets     Q R T  the same, or missing
 //   b d    signed, of 2 and 4 octets       A D    signed or missing, of 1 and 4
+#![tactic(auto)]
+
 ghost use Rattle.std.specs.Prelude.{◌≡◌, [], ◌∷◌, ◌++◌, ◌<◌, ◌≤◌, length};
 ghost use Rattle.std.proofs.lemmas.List.Edits.{sets};
 ghost use Rattle.layout.specs.Outcomes.{refusal_of};
@@ -48,7 +50,7 @@ fn refusal(section: u8, s: &[u8]) -> Refusal
 
 // The record of an accepted section.
 fn put_record(section: u8, s: &[u8], values: &mut [i64])
-    requires* { do ⌜ 64 ≤ (← ⟦values.len()⟧) ⌝ }
+    requires { 64 ≤ length values.old }
     ensures { PutsRecord (section_outcome section s.now) values.old values.new }
 {
     match section {
@@ -62,7 +64,7 @@ fn put_record(section: u8, s: &[u8], values: &mut [i64])
 
 // Section 1 ends with the real year, which no octets hold.
 fn put_identification(s: &[u8], values: &mut [i64])
-    requires* { do ⌜ 64 ≤ (← ⟦values.len()⟧) ⌝ }
+    requires { 64 ≤ length values.old }
     ensures { PutsRecord (outcome₁ s.now) values.old values.new }
 {
     let year = octets::u16_at(s, 13);
@@ -89,7 +91,7 @@ fn put_identification(s: &[u8], values: &mut [i64])
 }
 
 fn put_grid(s: &[u8], values: &mut [i64])
-    requires* { do ⌜ 64 ≤ (← ⟦values.len()⟧) ⌝ }
+    requires { 64 ≤ length values.old }
     ensures { PutsRecord (outcome₃ s.now) values.old values.new }
 {
     match octets::u16_at(s, 13) {
@@ -102,7 +104,7 @@ fn put_grid(s: &[u8], values: &mut [i64])
 }
 
 fn put_product(s: &[u8], values: &mut [i64])
-    requires* { do ⌜ 64 ≤ (← ⟦values.len()⟧) ⌝ }
+    requires { 64 ≤ length values.old }
     ensures { PutsRecord (outcome₄ s.now) values.old values.new }
 {
     match octets::u16_at(s, 8) {
@@ -121,8 +123,8 @@ fn put_product(s: &[u8], values: &mut [i64])
 
 // The count of the fields, and their numbers.
 fn put(s: &[u8], letters: &[u8], values: &mut [i64])
-    requires letters_len_bound { length letters.now < 64 }
-    requires* do_bound { do ⌜ 64 ≤ (← ⟦values.len()⟧) ⌝ }
+    requires few { length letters.now < 64 }
+    requires room { 64 ≤ length values.old }
     ensures { values.new ≡ with_count (numbers_by letters.now 1 s.now) values.old }
 {
     put_fields(s, letters, values);
@@ -131,8 +133,8 @@ fn put(s: &[u8], letters: &[u8], values: &mut [i64])
 
 // The same, and a last number behind them.
 fn put_with(s: &[u8], letters: &[u8], last: i64, values: &mut [i64])
-    requires letters_len_bound { length letters.now < 63 }
-    requires* do_bound { do ⌜ 64 ≤ (← ⟦values.len()⟧) ⌝ }
+    requires few { length letters.now < 63 }
+    requires room { 64 ≤ length values.old }
     ensures { values.new ≡ with_count (numbers_by letters.now 1 s.now ++ (last ∷ [])) values.old }
 {
     put_fields(s, letters, values);
@@ -143,8 +145,8 @@ fn put_with(s: &[u8], letters: &[u8], last: i64, values: &mut [i64])
 
 // The numbers of the fields, the first from octet 1 on, into the places behind the first.
 fn put_fields(s: &[u8], letters: &[u8], values: &mut [i64])
-    requires letters_len_bound { length letters.now < 64 }
-    requires* do_bound { do ⌜ 64 ≤ (← ⟦values.len()⟧) ⌝ }
+    requires few { length letters.now < 64 }
+    requires room { 64 ≤ length values.old }
     ensures { values.new ≡ sets values.old 1 (numbers_by letters.now 1 s.now) }
 {
     let mut at: usize = 1;
@@ -165,8 +167,8 @@ struct Found(i64, usize);
 
 // The field from octet `at` on.
 fn field_at(s: &[u8], at: usize, letter: u8) -> Found
-    ensures result_value { result.0 ≡ number_by (kind_of letter) at s.now }
-    ensures result_value_2 { result.1 ≡ (kind_of letter).octets }
+    ensures number { result.0 ≡ number_by (kind_of letter) at s.now }
+    ensures octets { result.1 ≡ (kind_of letter).octets }
 {
     match letter {
         b'1' => Found(octets::u8_at(s, at) as i64, 1),
