@@ -1,6 +1,6 @@
-/* The proved core of Skogmund, for C and for what can call C. `tools/library` proves it, compiles it for the processor at hand and prints the
-   directory of its libskogmund.a; for x86-64 and the System V calling convention that is what `rt staticlib skogmund` writes. Of other
-   libraries it calls memcpy, memmove and memset only.
+/* The proved core of Skogmund, for C and for what can call C. `tools/library` proves it, compiles it for x86-64 and the System V calling
+   convention and prints the directory of its libskogmund.a, which is what `rt lib` writes in crates/skogmund_c. Of other libraries it calls
+   memcpy, memmove and memset only.
 
    A refusal is one number, 0 for none; it is taken apart below. docs/RULES.md has when each is given, and their order. A slice is a pointer and,
    behind it, how many elements it has; a slice of none may come with a null pointer. What is lent as a pointer to const is only read. Nothing is
