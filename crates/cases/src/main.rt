@@ -5,10 +5,17 @@
 // each of which holds 9 before (`unpacking`). A line that starts with `#` is printed as it is. Lines that start with a letter file fields
 // and join shelves (`shelves`), but for `q LENGTH OCTETS`: a queue, of which the listing and the explanation are printed (`queues`), and
 // `m LENGTH OCTETS`: a message, whose contents are printed (`messages`).
-ghost use Rattle.std.specs.Prelude.{◌≡◌, length};
+#![tactic(auto)]
 
+ghost use Rattle.std.specs.Prelude.{◌≡◌, length, IfOk, vec_len};
+
+use print::Output;
 use shelf::Shelf;
 use shelves::Shelves;
+use standard::Input;
+use std::alloc::{AllocError, Global};
+use std::io;
+use std::io::{BufWriter, Write};
 
 mod lines;
 mod messages;
@@ -18,14 +25,20 @@ mod sections;
 mod shelves;
 mod unpacking;
 
-fn main() {
-    let mut room = input_buffer();
-    let n = io::read_full(libc::STDIN_FILENO, &mut room);
-    run(&room[..n]);
+fn main(rt: HostRuntime) -> io::Result<()> {
+    let mut room = input_buffer(rt.alloc())?;
+    match standard::read_all(&rt, &mut room) {
+        Input::Octets(n) => {
+            let mut out = BufWriter::new(rt.alloc(), rt.stdout())?;
+            run(&mut out, &room[..n])?;
+            out.flush()
+        }
+        Input::Failed(why) => Err(why),
+    }
 }
 
 // One line after the other.
-fn run(text: &[u8]) {
+fn run(out: &mut Output, text: &[u8]) -> io::Result<()> {
     let mut shelves = Shelves {
         here: Shelf::empty(),
         other: Shelf::empty(),
@@ -33,47 +46,47 @@ fn run(text: &[u8]) {
     let mut i: usize = 0;
     while i < text.len() {
         let end = lines::next(text, i, b'\n');
-        shelves = run_line(&text[i..end], shelves);
-        print::text(b"\n");
+        shelves = run_line(out, &text[i..end], shelves)?;
+        print::text(out, b"\n")?;
         i = end + 1;
     }
+    Ok(())
 }
 
-fn run_line(line: &[u8], shelves: Shelves) -> Shelves {
+fn run_line(out: &mut Output, line: &[u8], shelves: Shelves) -> io::Result<Shelves> {
     if line.len() == 0 {
-        return shelves;
+        return Ok(shelves);
     }
     let order = line[0];
     if order == b'#' {
-        print::text(line);
-        return shelves;
+        print::text(out, line)?;
+        return Ok(shelves);
     }
     if order == b'q' {
-        queues::show(line);
-        return shelves;
+        queues::show(out, line)?;
+        return Ok(shelves);
     }
     if order == b'm' {
-        messages::show(line);
-        return shelves;
+        messages::show(out, line)?;
+        return Ok(shelves);
     }
     if b'a' <= order {
-        return shelves::run(line, order, shelves);
+        return shelves::run(out, line, order, shelves);
     }
-    run_case(line, order);
-    shelves
+    run_case(out, line, order)?;
+    Ok(shelves)
 }
 
-fn run_case(line: &[u8], section: u8) {
+fn run_case(out: &mut Output, line: &[u8], section: u8) -> io::Result<()> {
     if section == b'7' {
-        run_unpacking(line);
-        return;
+        return run_unpacking(out, line);
     }
     let mut room = section_buffer();
     let n = lines::section_in(line, &mut room);
-    sections::show(lines::digit(section), octets::part_after(&room, 0, n));
+    sections::show(out, lines::digit(section), octets::part_after(&room, 0, n))
 }
 
-fn run_unpacking(line: &[u8]) {
+fn run_unpacking(out: &mut Output, line: &[u8]) -> io::Result<()> {
     let behind_5 = lines::behind(line, b'/');
     let mut room_5 = section_buffer();
     let n5 = lines::section_in(line, &mut room_5);
@@ -82,19 +95,20 @@ fn run_unpacking(line: &[u8]) {
     let places = lines::decimal(lines::word(lines::behind(lines::behind(behind_5, b'/'), b' ')));
     let mut row = row_buffer();
     unpacking::show(
+        out,
         octets::part_after(&room_5, 0, n5),
         octets::part_after(&room_7, 0, n7),
         &mut row,
         places,
-    );
+    )
 }
 
 // Room for the whole input, for a section that is longer than any may be, and for a row of as many values as any has. Each `ensures`
 // gives only the length, which lending the array as a slice needs.
-fn input_buffer() -> [u8; 3000000]
-    ensures { 3000000 ≡ length result }
+fn input_buffer(alloc: Global) -> Result<Vec<u8>, AllocError>
+    ensures { IfOk result (λ room. 3000000 ≡ vec_len room) }
 {
-    [0; 3000000]
+    vec![in alloc; 0; 3000000]
 }
 
 fn section_buffer() -> [u8; 70000]

@@ -1,63 +1,61 @@
-// What the program prints, on standard output. No function answers anything or is lent anything to change, so a contract that says
-// nothing leaves nothing open.
+// What the program prints: on a buffered standard output, of which a contract can say nothing.
 use layout::Refusal;
+use std::io;
+use std::io::{BufWriter, Stdout, Write};
 
 // INT64_MIN stands for missing in a row of values; this is the least number that is one.
 const LEAST: i64 = -9223372036854775807;
 
-pub(crate) fn text(words: &[u8]) {
-    io::write_all(libc::STDOUT_FILENO, words);
+// Where the answers go.
+pub(crate) type Output = BufWriter<Stdout>;
+
+pub(crate) fn text(out: &mut Output, words: &[u8]) -> io::Result<()> {
+    out.write_all(words)
 }
 
 // A number, as a word of a line.
-pub(crate) fn number(n: u64) {
-    text(b" ");
-    io::print_decimal(libc::STDOUT_FILENO, n);
+pub(crate) fn number(out: &mut Output, n: u64) -> io::Result<()> {
+    write!(out, " {n}")
 }
 
-pub(crate) fn signed(z: i64) {
+pub(crate) fn signed(out: &mut Output, z: i64) -> io::Result<()> {
     if z < LEAST {
-        text(b" missing");
-    } else if z < 0 {
-        text(b" -");
-        io::print_decimal(libc::STDOUT_FILENO, (-z) as u64);
+        text(out, b" missing")
     } else {
-        number(z as u64);
+        write!(out, " {z}")
     }
 }
 
-pub(crate) fn refusal(x: Refusal) {
-    text(b"refused");
-    number(x.number as u64);
-    number(x.section as u64);
-    number(x.place as u64);
+pub(crate) fn refusal(out: &mut Output, x: Refusal) -> io::Result<()> {
+    text(out, b"refused")?;
+    number(out, x.number as u64)?;
+    number(out, x.section as u64)?;
+    number(out, x.place as u64)
 }
 
 // How many octets a part has, and these: of more than 40 the first 24 and the last 12.
-pub(crate) fn part(name: &[u8], part: &[u8]) {
+pub(crate) fn part(out: &mut Output, name: &[u8], part: &[u8]) -> io::Result<()> {
     let n = part.len();
-    text(name);
-    number(n as u64);
+    text(out, name)?;
+    number(out, n as u64)?;
     if n == 0 {
-        return;
+        return Ok(());
     }
-    text(b" ");
+    text(out, b" ")?;
     if n <= 40 {
-        hexadecimal(part);
-        return;
+        return hexadecimal(out, part);
     }
-    hexadecimal(octets::part_after(part, 0, 24));
-    text(b"..");
-    hexadecimal(octets::part_after(part, n - 12, 12));
+    hexadecimal(out, octets::part_after(part, 0, 24))?;
+    text(out, b"..")?;
+    hexadecimal(out, octets::part_after(part, n - 12, 12))
 }
 
-pub(crate) fn hexadecimal(part: &[u8]) {
-    let mut i = 0;
-    while i < part.len() {
-        let pair = [digit(part[i] / 16), digit(part[i])];
-        text(&pair);
-        i += 1;
+pub(crate) fn hexadecimal(out: &mut Output, part: &[u8]) -> io::Result<()> {
+    for octet in part {
+        let pair = [digit(*octet / 16), digit(*octet)];
+        text(out, &pair)?;
     }
+    Ok(())
 }
 
 // The digit for a number's lowest four bits.

@@ -1,33 +1,34 @@
 // Queues: the listing and the explanation of one, as the two programs print them.
-use crate::{lines, print};
+use crate::lines;
+use crate::print::{self, Output};
+use std::io;
 
-pub(crate) fn show(line: &[u8]) {
+pub(crate) fn show(out: &mut Output, line: &[u8]) -> io::Result<()> {
     let mut room = crate::section_buffer();
     let n = lines::section_in(line, &mut room);
     let queue = octets::part_after(&room, 0, n);
-    list(queue);
-    explain(queue);
+    list(out, queue)?;
+    explain(out, queue)
 }
 
-fn list(queue: &[u8]) {
+fn list(out: &mut Output, queue: &[u8]) -> io::Result<()> {
     let mut text = report::listing_buffer();
     let end = report::listing(queue, &mut text);
-    print::text(octets::part_after(&text, 0, end));
+    print::text(out, octets::part_after(&text, 0, end))
 }
 
-fn explain(queue: &[u8]) {
+fn explain(out: &mut Output, queue: &[u8]) -> io::Result<()> {
     let mut text = report::explanation_buffer();
     let end = report::explanation(queue, &mut text);
-    print_short(octets::part_after(&text, 0, end));
+    print_short(out, octets::part_after(&text, 0, end))
 }
 
 // Of more than 4,000 octets the first 1,000 and the last 200.
-fn print_short(text: &[u8]) {
+fn print_short(out: &mut Output, text: &[u8]) -> io::Result<()> {
     if text.len() <= 4000 {
-        print::text(text);
-        return;
+        return print::text(out, text);
     }
-    print::text(octets::part_after(text, 0, 1000));
-    print::text(b"\n...\n");
-    print::text(octets::part_after(text, text.len() - 200, 200));
+    print::text(out, octets::part_after(text, 0, 1000))?;
+    print::text(out, b"\n...\n")?;
+    print::text(out, octets::part_after(text, text.len() - 200, 200))
 }

@@ -1,8 +1,10 @@
 // Shelves: fields filed, one shelf joined to another, and what the slots then hold.
-use crate::{lines, print};
+use crate::lines;
+use crate::print::{self, Output};
 use filing::{Answer, Filed, StoredIssue};
 use layout::Refusal;
 use shelf::{Shelf, Slot};
+use std::io;
 
 // The shelf that fields are filed to, and another.
 #[derive(Clone, Copy)]
@@ -13,76 +15,82 @@ pub(crate) struct Shelves {
 
 // What a line asks for: `f SLOT ISSUE+1 / five sections` files a field (0: no issue named), `b SLOT 0 / five sections` reloads one at
 // the bench, `e` empties the shelf, `x` changes the two over, `j` joins the other in, and `s` shows what is held.
-pub(crate) fn run(line: &[u8], order: u8, shelves: Shelves) -> Shelves {
+pub(crate) fn run(
+    out: &mut Output,
+    line: &[u8],
+    order: u8,
+    shelves: Shelves,
+) -> io::Result<Shelves> {
     let here = shelves.here;
     let other = shelves.other;
     if order == b'e' {
         let empty = Shelf::empty();
-        return Shelves { here: empty, other };
+        return Ok(Shelves { here: empty, other });
     }
     if order == b'x' {
-        return Shelves {
+        return Ok(Shelves {
             here: other,
             other: here,
-        };
+        });
     }
     if order == b'j' {
         let both = shelf::join(here, other);
-        return Shelves { here: both, other };
+        return Ok(Shelves { here: both, other });
     }
     if order == b's' {
-        show_shelf(here);
-        return shelves;
+        show_shelf(out, here)?;
+        return Ok(shelves);
     }
     let done = file(line, order, here);
     let answer = done.answer;
-    show_answer(answer);
+    show_answer(out, answer)?;
     let after = done.shelf;
-    Shelves { here: after, other }
+    Ok(Shelves { here: after, other })
 }
 
-fn show_answer(answer: Answer) {
+fn show_answer(out: &mut Output, answer: Answer) -> io::Result<()> {
     match answer {
-        Answer::Kept => print::text(b"kept"),
-        Answer::Passed => print::text(b"passed"),
-        Answer::Refused(x) => print::refusal(x),
+        Answer::Kept => print::text(out, b"kept"),
+        Answer::Passed => print::text(out, b"passed"),
+        Answer::Refused(x) => print::refusal(out, x),
     }
 }
 
-fn show_shelf(shelf: Shelf) {
-    print::text(b"held");
+fn show_shelf(out: &mut Output, shelf: Shelf) -> io::Result<()> {
+    print::text(out, b"held")?;
     let mut i: usize = 0;
     while i < 64 {
-        show_slot(shelf::slot_of(shelf, i), i);
+        show_slot(out, shelf::slot_of(shelf, i), i)?;
         i += 1;
     }
+    Ok(())
 }
 
-fn show_slot(slot: Slot, i: usize) {
+fn show_slot(out: &mut Output, slot: Slot, i: usize) -> io::Result<()> {
     if !slot.held {
-        return;
+        return Ok(());
     }
     let card = slot.card;
-    print::text(b" slot");
-    print::number(i as u64);
-    print::signed(wide(card.year));
-    print::number(card.month as u64);
-    print::number(card.day as u64);
-    print::number(card.hour as u64);
-    print::number(card.minute as u64);
-    print::number(card.second as u64);
-    print::number(card.issue as u64);
+    print::text(out, b" slot")?;
+    print::number(out, i as u64)?;
+    print::signed(out, wide(card.year))?;
+    print::number(out, card.month as u64)?;
+    print::number(out, card.day as u64)?;
+    print::number(out, card.hour as u64)?;
+    print::number(out, card.minute as u64)?;
+    print::number(out, card.second as u64)?;
+    print::number(out, card.issue as u64)?;
     let product = card.product;
-    show_product(product);
+    show_product(out, product)
 }
 
 fn wide(z: i32) -> i64 {
     z as i64
 }
 
-fn show_product(product: [u8; 27]) {
-    print::text(b" ");
-    print::hexadecimal(&product);
+fn show_product(out: &mut Output, product: [u8; 27]) -> io::Result<()> {
+    print::text(out, b" ")?;
+    print::hexadecimal(out, &product)
 }
 
 fn file(line: &[u8], order: u8, shelf: Shelf) -> Filed {

@@ -1,46 +1,56 @@
 // Unpacking: section 7 alone, and the row that sections 5 and 7 unpack into.
 ghost use Rattle.std.specs.Prelude.{◌<◌, ◌^◌};
 
-use crate::{print, sections};
+use crate::print::{self, Output};
+use crate::sections;
 use packing::Unpacked;
+use std::io;
 
 // Unpacks into so many places of a row, where it has as many.
-pub(crate) fn show(section5: &[u8], section7: &[u8], row: &mut [u32], places: usize) {
+pub(crate) fn show(
+    out: &mut Output,
+    section5: &[u8],
+    section7: &[u8],
+    row: &mut [u32],
+    places: usize,
+) -> io::Result<()> {
     if places <= row.len() {
-        show_row(section5, section7, &mut row[0..places]);
+        show_row(out, section5, section7, &mut row[0..places])?;
     }
+    Ok(())
 }
 
-fn show_row(section5: &[u8], section7: &[u8], row: &mut [u32]) {
-    sections::show_values(7, section7);
-    print::text(b" unpacked ");
+fn show_row(out: &mut Output, section5: &[u8], section7: &[u8], row: &mut [u32]) -> io::Result<()> {
+    sections::show_values(out, 7, section7)?;
+    print::text(out, b" unpacked ")?;
     let answer = packing::unpack(section5, section7, row);
-    show_answer(answer);
-    print::text(b" row");
+    show_answer(out, answer)?;
+    print::text(out, b" row")?;
     if row.len() <= 8 {
-        show_numbers(row);
+        show_numbers(out, row)
     } else {
-        print::text(b" digest");
-        print::number(digest(row));
+        print::text(out, b" digest")?;
+        print::number(out, digest(row))
     }
 }
 
-fn show_answer(answer: Unpacked) {
+fn show_answer(out: &mut Output, answer: Unpacked) -> io::Result<()> {
     match answer {
         Unpacked::Written(n) => {
-            print::text(b"written");
-            print::number(n as u64);
+            print::text(out, b"written")?;
+            print::number(out, n as u64)
         }
-        Unpacked::Refused(x) => print::refusal(x),
+        Unpacked::Refused(x) => print::refusal(out, x),
     }
 }
 
-fn show_numbers(row: &[u32]) {
+fn show_numbers(out: &mut Output, row: &[u32]) -> io::Result<()> {
     let mut i = 0;
     while i < row.len() {
-        print::number(wide(row[i]));
+        print::number(out, wide(row[i]))?;
         i += 1;
     }
+    Ok(())
 }
 
 fn wide(x: u32) -> u64

@@ -1,5 +1,7 @@
 // The entries for C and Rust, on numbers and slices; `include/skogmund.h` declares them. Nothing is kept between calls. A refusal is one
 // number: 0 for none, else number x 2^40 + section x 2^32 + place.
+#![tactic(auto)]
+
 ghost use Rattle.std.specs.Prelude.{◌≡◌, ◌≤◌};
 ghost use Rattle.lent.specs.Lent.{done, done_both};
 ghost use Rattle.layout.specs.Refusals.{last_place};

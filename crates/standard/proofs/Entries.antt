@@ -4,7 +4,7 @@ use Rattle.standard.specs.Input.{Holds}
 use Rattle.entry.specs.Entry.{Entry}
 use Rattle.standard.proofs as code
 
-pub read_all : Entry code.read_all.Reads.Asked code.read_all.Reads.Learnt code.read_all.Statement.statement (λ given r later. Holds r later.0.now)
+pub read_all : Entry code.read_all.Reads.Asked code.read_all.Reads.Learnt code.read_all.Statement.statement (λ given r later. Holds r later.1.0.now)
 read_all = record { takes = λ lent given. tt; ends = code.read_all.Met.met; tells = λ lent given r later e. e }
 
 pub read-failed : Entry code.read_failed.Reads.Asked code.read_failed.Reads.Learnt code.read_failed.Statement.statement (λ given r later. Unit {0})

@@ -8,4 +8,4 @@ use Rattle.standard.specs.declared.Input.TheVariants.{Octets, Failed}
 -- no more octets were read than the buffer has; which ones they are, and what a read that failed left there, is the system's
 abbrev pub Holds : Input → List ℕ → Type 0
 Holds (Octets n) buffer = IsPrefixLen n buffer
-Holds Failed buffer = Unit
+Holds (Failed why) buffer = Unit

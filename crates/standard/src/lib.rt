@@ -1,38 +1,41 @@
 // Standard input, read whole, and standard output and standard error. Nothing is known of what is read.
+#![tactic(auto)]
+
 ghost use Rattle.standard.specs.Input.{Holds};
 
-// How many octets were read, at the start of the buffer, or that a read failed.
+use std::io;
+use std::io::Read;
+
+// How many octets were read, at the start of the buffer, or why a read failed.
 #[derive(Clone, Copy)]
 pub enum Input {
     Octets(usize),
-    Failed,
+    Failed(io::Error),
 }
 
 // Reads until the input ends or the buffer is full. A read that fails is told from the end of the input.
-pub fn read_all(buf: &mut [u8]) -> Input
+pub fn read_all(rt: &HostRuntime, buf: &mut [u8]) -> Input
     ensures { Holds result buf.new }
 {
+    let mut stdin = rt.stdin();
     let mut done = 0;
     while done < buf.len() {
-        let got = libc::read(libc::STDIN_FILENO, &mut buf[done..]);
-        if got < 0 {
-            return Input::Failed;
+        match stdin.read(&mut buf[done..]) {
+            Ok(0) => return Input::Octets(done),
+            Ok(more) => done += more,
+            Err(why) => return Input::Failed(why),
         }
-        let more = io::count(got, &buf[done..]);
-        if more == 0 {
-            return Input::Octets(done);
-        }
-        done += more;
     }
     Input::Octets(done)
 }
 
-pub fn read_failed() {
-    os::fail(b"standard input");
+// What can't be said on standard error either is let go, here and in `print`.
+pub fn read_failed(rt: &HostRuntime, why: io::Error) {
+    let _ = eprintln!(rt; "standard input: {why}");
 }
 
-pub fn print(text: &[u8]) {
-    if !io::write_all(libc::STDOUT_FILENO, text) {
-        os::fail(b"standard output");
+pub fn print(rt: &HostRuntime, text: &[u8]) {
+    if let Err(why) = rt.write_all(text) {
+        let _ = eprintln!(rt; "standard output: {why}");
     }
 }

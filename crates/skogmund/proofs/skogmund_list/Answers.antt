@@ -1,0 +1,49 @@
+-- `skogmund_list`: the listing goes by way of a buffer that it always fits, so that nothing is written where it doesn't fit the lent one.
+-- Assumes nothing.
+use Prim.Native.Nat.{ℕ, ◌≤◌, ◌<◌}
+use native.Mathlib.Omega.{arith}
+use mathlib.Core.Path.{sym, ap, ap₂, ◌∙◌}
+use mathlib.Core.Bool.{true, false}
+use mathlib.Core.List.{[], ◌∷◌}
+use lib.ListN.{length}
+use lib.Seq.{length-take-le}
+use borrow.Author.Rules.{rules}
+use borrow.Author.Tests.{le-leb, lt-leb, not-true, not-false}
+use Rattle.lent.specs.Lent.{done_both, over}
+use Rattle.lent.specs.Written.{written, append}
+use Rattle.lent.proofs.Written.{starts-within, starts-to, starts-over, starts-front, append-whole}
+use Rattle.lent.proofs.Answers.{room-said}
+use Rattle.report.specs.Texts.{listing}
+use Rattle.skogmund.specs.Entries.{no_room, listing_told}
+use Rattle.skogmund.proofs.skogmund_list.Goals as goal
+
+pub returns-then-text-end : goal.returns-then-text-end
+unfolding listing_told
+returns-then-text-end c =
+    let a = c.args in
+    let long : length a.text.now < length (listing a.queue.now) = omega (arith, starts-to _ _ c.whole_listing-end.ensures, c.if-text-end.true) in
+    rw (lt-leb _ _ long)
+
+pub returns-then-not-numbers : goal.returns-then-not-numbers
+unfolding listing_told
+returns-then-not-numbers c =
+    let fits-text : length (listing c.args.queue.now) ≤ length c.args.text.now = omega (arith, starts-to _ _ c.whole_listing-end.ensures, c.if-text-end.false) in
+    let a = c.args in
+    let h = room-said a.length.now (c.whole_listing-end.result ∷ []) c.numbers.ensures false (c.if-not-numbers.true) in
+    rw (le-leb _ _ (fits-text), h.0) (ap (done_both no_room a.text.now) h.1)
+
+pub slice_bounds-room-end : goal.slice_bounds-room-end
+slice_bounds-room-end c = starts-within _ _ c.whole_listing-end.ensures
+
+pub slice_bounds-octets-end : goal.slice_bounds-octets-end
+slice_bounds-octets-end c = sym (length-take-le _ _ (starts-within _ _ c.whole_listing-end.ensures))
+
+pub returns : goal.returns
+unfolding listing_told
+returns c =
+    let fits-text : length (listing c.args.queue.now) ≤ length c.args.text.now = omega (arith, starts-to _ _ c.whole_listing-end.ensures, c.if-text-end.false) in
+    let a = c.args in
+    let h = room-said a.length.now (c.whole_listing-end.result ∷ []) c.numbers.ensures true (c.if-not-numbers.false) in
+    let text = c.octets.ensures ∙ ap (append (written a.text.now 0)) (starts-front _ _ c.whole_listing-end.ensures) ∙ append-whole a.text.now (listing a.queue.now) (fits-text) in
+    rw (le-leb _ _ (fits-text), h.0)
+    (ap₂ (done_both 0) (starts-over _ _ text) (h.1 ∙ ap (λ (k : ℕ). over a.length.now (k ∷ [])) (starts-to _ _ c.whole_listing-end.ensures)))
