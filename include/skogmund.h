@@ -7,8 +7,8 @@
    kept between calls, and there is no heap. No entry asks for more than pointers that are valid for their lengths, and slices that do not
    overlap one that is written to. A refusal leaves everything lent as it was.
 
-   Stack, in octets, by the frames of the compiled entries: list 52,000; file_queue 29,000; file 17,000; join 13,000; empty 10,000; message
-   5,000; the others below 2,000. */
+   Stack, in octets, by the frames of the compiled entries: list 52,000; file_queue 32,000; file 20,000; join 13,000; empty 10,000; message
+   6,000; the others below 2,000. */
 #ifndef SKOGMUND_H
 #define SKOGMUND_H
 
