@@ -100,6 +100,7 @@ use Rattle.demands.specs.Accepted.{Accepted}
 
 accepted-is : (o : Outcome) → Accepted o → (vs : List Value) × (o ≡ read vs)
 accepted-is (read vs) a = (vs, refl)
+accepted-is (refused _ _ _) a = elim a [ ]
 
 is-accepted : {o : Outcome} (vs : List Value) → o ≡ read vs → Accepted o
 is-accepted vs e = subst Accepted (sym e) tt
