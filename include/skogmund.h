@@ -1,14 +1,14 @@
-/* The proved core of Skogmund, for C and for what can call C. `tools/library` proves it, compiles it for the processor at hand and prints the
-   directory of its libskogmund.a; for x86-64 and the System V calling convention that is what `rt staticlib skogmund` writes. Of other
-   libraries it calls memcpy, memmove and memset only.
+/* The proved core of Skogmund, for C and for what can call C. `tools/library` proves it, compiles it for x86-64 and the System V calling
+   convention and prints the directory of its libskogmund.a, which is what `rt lib` writes in crates/skogmund_c. Of other libraries it calls
+   memcpy, memmove and memset only.
 
    A refusal is one number, 0 for none; it is taken apart below. docs/RULES.md has when each is given, and their order. A slice is a pointer and,
    behind it, how many elements it has; a slice of none may come with a null pointer. What is lent as a pointer to const is only read. Nothing is
    kept between calls, and there is no heap. No entry asks for more than pointers that are valid for their lengths, and slices that do not
    overlap one that is written to. A refusal leaves everything lent as it was.
 
-   Stack, in octets, by the frames of the compiled entries: list 52,000; file_queue 29,000; file 17,000; join 13,000; empty 10,000; message
-   5,000; the others below 2,000. */
+   Stack, in octets, by the frames of the compiled entries: list 52,000; file_queue 32,000; file 20,000; join 13,000; empty 10,000; message
+   6,000; the others below 2,000. */
 #ifndef SKOGMUND_H
 #define SKOGMUND_H
 

@@ -8,7 +8,14 @@ needs() {
     exit 1
 }
 
-# A crate and all below it, by crates.txt.
+# Ends the script on a processor for which the kit does not compile.
+needs_x86_64() {
+    [ "$(uname -m)" = x86_64 ] && return
+    say "the Rattle kit compiles for x86-64 alone, and this is $(uname -m)"
+    exit 1
+}
+
+# A crate and all below it, by crates.txt. What stands behind a name, as `staticlib`, says how the crate is built.
 with_all_below() {
     awk -v crate="$1" '
         function visit(name,    i, n, names) {
@@ -19,17 +26,16 @@ with_all_below() {
             for (i = 1; i <= n; i++) visit(names[i])
         }
         { sub(/#.*/, "") }
-        split($0, line, ":") == 2 { gsub(/[ \t]/, "", line[1]); below[line[1]] = line[2] }
+        split($0, line, ":") == 2 { split(line[1], words, " "); below[words[1]] = line[2] }
         END { visit(crate) }' crates.txt
 }
 
-# One line, which is another where anything differs that a crate is made of, whatever the times of the files.
+# One line, which is another where anything differs that a crate is made of, whatever the times of the files. What rt keeps in out/ is no part of it.
 made_of() {
     {
-        uname -m
-        sha256sum crates.txt tools/build.sh tools/clang tools/library
+        sha256sum crates.txt tools/build.sh tools/library
         for name in $(with_all_below "$1"); do
-            find "crates/$name" -type f ! -path '*/must-fail/*' -exec sha256sum {} + | LC_ALL=C sort
+            find "crates/$name" -path "crates/$name/out" -prune -o -type f ! -path '*/must-fail/*' -exec sha256sum {} + | LC_ALL=C sort
         done
     } | sha256sum
 }
@@ -51,7 +57,8 @@ $(sha256sum "$file" 2> /dev/null)" ] && return
     # Standard input stays the caller's.
     if ! "$@" < /dev/null > "$log" 2>&1 || [ ! -f "$file" ]; then
         # Lines of what is proved, or only read, are no reason.
-        grep -v -e '^library ' -e '^logic /' -e ': proved$' -e ' proved (' "$log" | tail -n 20 | cut -c 1-300 >&2
+        grep -v -E -e '^(library|statements|crate|axioms|checked) ' -e '^logic /' -e '^rt: (chose|.*: begins with) ' -e ': proved$' "$log" |
+            tail -n 20 | cut -c 1-300 >&2
         say "$file could not be built; $log has all that was said"
         return 1
     fi

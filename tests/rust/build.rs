@@ -1,5 +1,5 @@
 //! Links `libskogmund.a` and `libunpacking.a` from the directory in SKOGMUND_LIB, or else from the one in which `tools/library` writes
-//! them for this processor. Without both the cfg `no_library` leaves out what needs them, so that the reference's own tests still run.
+//! them, for x86-64. Without both the cfg `no_library` leaves out what needs them, so that the reference's own tests still run.
 use std::env;
 use std::path::PathBuf;
 
@@ -11,11 +11,7 @@ fn library_directory() -> PathBuf {
     match env::var_os("SKOGMUND_LIB") {
         // A relative directory is the package's, not that of whoever called cargo.
         Some(named) => package.join(named),
-        // `rt staticlib` compiles for x86-64 only.
-        None if env::var("CARGO_CFG_TARGET_ARCH").as_deref() == Ok("x86_64") => {
-            package.join("../../target/staticlib")
-        }
-        None => package.join("../../target/here"),
+        None => package.join("../../target/staticlib"),
     }
 }
 

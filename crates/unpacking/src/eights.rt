@@ -25,7 +25,7 @@ pub(crate) fn few_or_eights(packed: &[u8], bits: u32, row: &mut [u32])
     }
 }
 
-// Groups of eight as far as there are octets, and then the rest as `carrying` takes it. It is marked for C so that the compiler keeps it apart in the
+// Groups of eight as far as there are octets, and then the rest as `carrying` takes it. It is exported for C so that the compiler keeps it apart in the
 // library of the engines: copied into `unpack`, it would have that save registers where there are few numbers too.
 pub fn unpack_eights(packed: &[u8], bits: u32, row: &mut [u32])
     ensures { row.new ≡ filled bits packed.now row.old }
