@@ -3,7 +3,7 @@
 use Prim.Native.Nat.{ℕ, ◌+◌, ◌-◌, ◌≤◌}
 use native.Mathlib.Omega.{arith}
 use mathlib.Core.Path.{◌≡◌, refl, ap, sym, ◌∙◌}
-use mathlib.Core.Bool.{Bool, true, false}
+use mathlib.Core.Bool.{Bool, true, false, cond}
 use mathlib.Core.Logic.{◌⊎◌, inl, inr, ⊎_elim}
 use mathlib.Core.List.{List, ◌++◌, Memᴰ}
 use lib.Dec.{ltb}
@@ -95,6 +95,17 @@ sections-back s w = (strung-cut section_step sections-advance (λ x. x) (λ s. U
 
 pub size-after : (s : List ℕ) (start : ℕ) → be_at (drop start s) 1 4 ≡ be_at s (start + 1) 4
 size-after s start = let place : 1 + start ≡ start + 1 = omega arith in be_at-drop s start 1 4 (omega arith) ∙ ap (λ (n : ℕ). be_at s n 4) place
+
+-- by the length octets behind `start`, and as many octets as are there
+pub end_by_size : (s : List ℕ) (start : ℕ)
+    → end_after s start ≡ cond (ltb (be_at s (start + 1) 4) 5) 0 (cond (ltb (length s - start) (be_at s (start + 1) 4)) 0 (start + be_at s (start + 1) 4))
+unfolding end_after section_step
+end_by_size s start = rw (size-after s start, length-drop start s) (told _ _ (ltb (be_at s (start + 1) 4) 5) (ltb (length s - start) (be_at s (start + 1) 4)))
+  where
+    told : (x : List ℕ) (n : ℕ) (t u : Bool) → end_of start (cond t no_item (cond u no_item (item x n))) ≡ cond t 0 (cond u 0 (start + n))
+    told x n true u = refl
+    told x n false true = refl
+    told x n false false = refl
 
 -- a section stands there, and it ends within the octets
 pub record EndsAfter (s : List ℕ) (start end : ℕ) : Type 0 where

@@ -61,6 +61,7 @@ fn groups_of(octets: &[u8]) -> Number
 }
 
 // The index after the section that starts at index `start`, or 0 if none of 5 or more octets stands there within these octets.
+#[tactic(auto, using(crate::proofs::Sections::end_by_size))]
 pub fn end_after(octets: &[u8], start: usize) -> usize
     ensures { result ≡ end_after octets.now start }
 {

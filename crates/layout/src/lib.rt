@@ -46,6 +46,7 @@ impl Refusal {
 // ---- the first refusal of a lent section that is met, and none if none is
 
 // 1 to 4, which every section has.
+#[tactic(auto, unfolding(crate::specs::Outcomes::first_refusal))]
 pub fn head_refusal(s: &[u8], section: u8) -> Refusal
     ensures { result ≡ first_refusal section (head_reasons section s.now) }
 {

@@ -16,6 +16,8 @@ use layout::{Refusal, Span};
 const START: u32 = 0x4752_4942;
 
 const END: u32 = 0x3737_3737;
+// The number of the section with which a field ends.
+const DATA: u8 = 7;
 
 // Where the five sections of a field stand in their message.
 #[derive(Clone, Copy)]
@@ -215,7 +217,7 @@ fn walk_sections(body: &[u8], right: bool) -> Cut
         last = octets::u8_at(section, 5);
         let length = end - at;
         force = in_force(force, last, Span { before: at, length });
-        if last == 7 {
+        if last == DATA {
             cut.fields[cut.count] = force;
             cut.count += 1;
         }
@@ -230,6 +232,7 @@ fn walk_sections(body: &[u8], right: bool) -> Cut
 }
 
 // 23 to 25 at a section which stands behind section `last` and behind `count` fields.
+#[tactic(auto, unfolding(crate::specs::Walk::section_refusal, layout::specs::Outcomes::first_refusal))]
 fn section_refusal(section: &[u8], last: u8, count: usize) -> Refusal
     ensures { result ≡ section_refusal last count section.now }
 {

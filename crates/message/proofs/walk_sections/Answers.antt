@@ -66,20 +66,20 @@ overflow_add-cut c =
     let room : c.loop-at.cut.count < 16 = (clear _ _ _ (cleared)).room in
     search (rules, room)
 
-pub loop-at-smaller-then-last-eq7 : goal.loop-at-smaller-then-last-eq7
-loop-at-smaller-then-last-eq7 c =
+pub loop-at-smaller-then-last-eq-DATA : goal.loop-at-smaller-then-last-eq-DATA
+loop-at-smaller-then-last-eq-DATA c =
     let there : EndsAfter c.args.body.now c.loop-at.at c.end_after-end.result = stands _ _ _ c.end_after-end.ensures c.if-end-eq0.false in
     let shorter : let body = c.args.body.now in length body - c.end_after-end.result < length body - c.loop-at.at = let s = there in omega (arith, s.later, s.inside) in
     shorter
 
-pub loop-at-preserved-then-last-eq7 : goal.loop-at-preserved-then-last-eq7
-loop-at-preserved-then-last-eq7 c =
+pub loop-at-preserved-then-last-eq-DATA : goal.loop-at-preserved-then-last-eq-DATA
+loop-at-preserved-then-last-eq-DATA c =
     let there : EndsAfter c.args.body.now c.loop-at.at c.end_after-end.result = stands _ _ _ c.end_after-end.ensures c.if-end-eq0.false in
     let refusal_is : c.section_refusal-refusal.result ≡ section_refusal c.loop-at.last c.loop-at.cut.count (stretch c.args.body.now c.loop-at.at c.end_after-end.result) = c.section_refusal-refusal.ensures ∙ ap (section_refusal c.loop-at.last c.loop-at.cut.count) c.stretch-section.ensures in
     let cleared : (section_refusal c.loop-at.last c.loop-at.cut.count (stretch c.args.body.now c.loop-at.at c.end_after-end.result)).number ≡ 0 = ap (λ (x : Refusal). x.number) (sym (refusal_is)) ∙ c.if-refusal-ne0.false in
     let met : c.u8_at-last.result ≡ number_in (stretch c.args.body.now c.loop-at.at c.end_after-end.result) = c.u8_at-last.ensures ∙ ap number_in c.stretch-section.ensures in
     let turn : (found : Cut) → let a = c.args in found ≡ cond (eqb c.u8_at-last.result 7) (one_more c.loop-at.cut c.in_force-force.result) c.loop-at.cut → judged_from a.body.now a.right (record { last = c.u8_at-last.result; force = c.in_force-force.result; found = found }) c.end_after-end.result ≡ judged_from a.body.now a.right start_walk 16 = λ found is. let a = c.args in walk-on a.body.now a.right _ c.loop-at.at _ (there) _ _ found (met) c.in_force-force.ensures is (cleared) ∙ c.loop-at.invariant in
-    turn _ (rw (eq-eqb _ 7 c.if-last-eq7.true))
+    turn _ (rw (eq-eqb _ 7 c.if-last-eq-DATA.true))
 
 pub loop-at-smaller : goal.loop-at-smaller
 loop-at-smaller c =
@@ -94,7 +94,7 @@ loop-at-preserved c =
     let cleared : (section_refusal c.loop-at.last c.loop-at.cut.count (stretch c.args.body.now c.loop-at.at c.end_after-end.result)).number ≡ 0 = ap (λ (x : Refusal). x.number) (sym (refusal_is)) ∙ c.if-refusal-ne0.false in
     let met : c.u8_at-last.result ≡ number_in (stretch c.args.body.now c.loop-at.at c.end_after-end.result) = c.u8_at-last.ensures ∙ ap number_in c.stretch-section.ensures in
     let turn : (found : Cut) → let a = c.args in found ≡ cond (eqb c.u8_at-last.result 7) (one_more c.loop-at.cut c.in_force-force.result) c.loop-at.cut → judged_from a.body.now a.right (record { last = c.u8_at-last.result; force = c.in_force-force.result; found = found }) c.end_after-end.result ≡ judged_from a.body.now a.right start_walk 16 = λ found is. let a = c.args in walk-on a.body.now a.right _ c.loop-at.at _ (there) _ _ found (met) c.in_force-force.ensures is (cleared) ∙ c.loop-at.invariant in
-    turn _ (rw (ne_eqb _ 7 c.if-last-eq7.false))
+    turn _ (rw (ne_eqb _ 7 c.if-last-eq-DATA.false))
 
 pub returns-then-refusal-ne0-2 : goal.returns-then-refusal-ne0-2
 returns-then-refusal-ne0-2 c =

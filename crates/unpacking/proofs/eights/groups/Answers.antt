@@ -28,7 +28,7 @@ overflow_add-run c =
 pub group-requires : goal.group-requires
 group-requires c =
     let room : c.loop-row.run.written + c.args.per ≤ length c.loop-row.row = omega (arith, c.loop-row-test.true, c.loop-row.invariant.stands.within) in
-    let octets : c.loop-row.run.taken + c.args.octets ≤ length c.args.packed.now = let a = c.args in omega (arith, c.if-octets-packed.true, c.loop-row.invariant.there) in
+    let octets : c.loop-row.run.taken + c.args.octets ≤ length c.args.packed.now = let a = c.args in omega (arith, c.loop-row.invariant.there) in
     let whole : (c.loop-row.run.written + c.args.per) * c.args.width ≡ 8 * (c.loop-row.run.taken + c.args.octets) = omega (arith, add-mul c.loop-row.run.written c.args.per c.args.width, c.loop-row.invariant.stands.holds.place, c.loop-row.invariant.nothing, c.requires.whole) in
     let p = c.requires in (
       c.loop-row.invariant.stands,
@@ -37,7 +37,7 @@ group-requires c =
 
 pub overflow_add-run-in-loop-row : goal.overflow_add-run-in-loop-row
 overflow_add-run-in-loop-row c =
-    let octets : c.loop-row.run.taken + c.args.octets ≤ length c.args.packed.now = let a = c.args in omega (arith, c.if-octets-packed.true, c.loop-row.invariant.there) in
+    let octets : c.loop-row.run.taken + c.args.octets ≤ length c.args.packed.now = let a = c.args in omega (arith, c.loop-row.invariant.there) in
     omega (arith, octets, c.well_formed)
 
 pub overflow_add-run-in-loop-row-2 : goal.overflow_add-run-in-loop-row-2
@@ -53,7 +53,7 @@ loop-row-smaller c =
 pub loop-row-preserved : goal.loop-row-preserved
 loop-row-preserved c =
     let room : c.loop-row.run.written + c.args.per ≤ length c.loop-row.row = omega (arith, c.loop-row-test.true, c.loop-row.invariant.stands.within) in
-    let octets : c.loop-row.run.taken + c.args.octets ≤ length c.args.packed.now = let a = c.args in omega (arith, c.if-octets-packed.true, c.loop-row.invariant.there) in
+    let octets : c.loop-row.run.taken + c.args.octets ≤ length c.args.packed.now = let a = c.args in omega (arith, c.loop-row.invariant.there) in
     let whole : (c.loop-row.run.written + c.args.per) * c.args.width ≡ 8 * (c.loop-row.run.taken + c.args.octets) = omega (arith, add-mul c.loop-row.run.written c.args.per c.args.width, c.loop-row.invariant.stands.holds.place, c.loop-row.invariant.nothing, c.requires.whole) in
     let a = c.args in
     let r = c.loop-row.run in
@@ -63,14 +63,6 @@ loop-row-preserved c =
       there = octets;
       nothing = refl;
     }
-
-pub shape_of-row-else-octets-packed : goal.shape_of-row-else-octets-packed
-shape_of-row-else-octets-packed c = c.loop-row.invariant.long
-
-pub returns-else-octets-packed : goal.returns-else-octets-packed
-returns-else-octets-packed c =
-    let by_bits : Stands c.args.bits c.args.packed.now c.loop-row.row c.loop-row.run = subst (λ (b : ℕ). Stands b c.args.packed.now c.loop-row.row c.loop-row.run) c.requires.same c.loop-row.invariant.stands in
-    by_bits
 
 pub shape_of-row-after-loop-row : goal.shape_of-row-after-loop-row
 shape_of-row-after-loop-row c = c.loop-row.invariant.long
