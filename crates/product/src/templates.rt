@@ -19,6 +19,7 @@ pub enum Template {
     Listed { kind: PartKind, timed: bool },
 }
 
+#[tactic(auto, unfolding(crate::specs::Templates::template_of))]
 pub(crate) fn template_of(number: u16) -> Template
     ensures { result ≡ template_of number }
 {

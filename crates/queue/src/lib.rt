@@ -72,6 +72,7 @@ pub enum Body {
 }
 
 // The five sections of a body.
+#[tactic(auto, unfolding(crate::specs::Bodies::body_of))]
 pub fn body_of(octets: &[u8]) -> Body
     ensures { result ≡ body_of octets.now }
 {

@@ -166,6 +166,7 @@ fn put_fields(s: &[u8], letters: &[u8], values: &mut [i64])
 struct Found(i64, usize);
 
 // The field from octet `at` on.
+#[tactic(auto, unfolding(crate::specs::Letters::kind_of))]
 fn field_at(s: &[u8], at: usize, letter: u8) -> Found
     ensures number { result.0 ≡ number_by (kind_of letter) at s.now }
     ensures octets { result.1 ≡ (kind_of letter).octets }
