@@ -38,6 +38,7 @@ pub fn product_at(s: &[u8], at: usize) -> [u8; 27]
 }
 
 // Whether a is less than b. From the last number of the order to the first, so that the first at which they differ decides.
+#[tactic(auto, unfolding(crate::specs::Key::less_card, crate::specs::Key::key_of, crate::specs::Order::lex))]
 pub fn less(a: Card, b: Card) -> bool
     ensures { result ≡ less_card a b }
 {

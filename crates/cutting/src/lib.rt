@@ -13,6 +13,7 @@ pub enum Number {
 }
 
 // The number at the start of these octets.
+#[tactic(auto, unfolding(crate::specs::Numbers::leading_number))]
 pub fn leading_number(octets: &[u8]) -> Number
     ensures { result ≡ leading_number octets.now }
 {

@@ -129,6 +129,7 @@ pub fn issue_from(stored: u64) -> StoredIssue
     StoredIssue::Is(Issue::Named((stored - 1) as u32))
 }
 
+#[tactic(auto, unfolding(crate::specs::Filing::filed_by))]
 fn refused(shelf: Shelf, number: u8, section: u8) -> Filed
     ensures { result ≡ filed_by shelf 0 (refused_filing number section 0) }
 {
@@ -152,6 +153,7 @@ fn issue_of(issue: Issue) -> u32
 }
 
 // Whether the calendar is present and not 0, the Gregorian one.
+#[tactic(auto, unfolding(identification::specs::Section1::values_in, layout::specs::Time::time_in))]
 fn foreign_calendar(x: Identification) -> bool
     ensures { result ≡ foreign_calendar (values_in x) }
 {

@@ -11,6 +11,7 @@ pub(crate) fn disagreement(section: &[u8]) -> u8
     if agrees(section) { 0 } else { 10 }
 }
 
+#[tactic(auto, unfolding(crate::specs::Agreement::agreed))]
 fn agrees(section: &[u8]) -> bool
     ensures { result ≡ agreed section.now }
 {
@@ -25,6 +26,7 @@ fn agrees(section: &[u8]) -> bool
 }
 
 // Ni and Nj both present, octet 12 is 0.
+#[tactic(auto, unfolding(crate::specs::Agreement::agreed_without_list))]
 fn agrees_without_list(section: &[u8]) -> bool
     ensures { result ≡ agreed_without_list section.now }
 {
@@ -38,6 +40,7 @@ fn agrees_without_list(section: &[u8]) -> bool
 }
 
 // Exactly one of Ni and Nj missing, its increment (Di for Ni) missing too, octet 12 is 1 or 2.
+#[tactic(auto, unfolding(crate::specs::Agreement::agreed_with_list, layout::specs::Fields::between))]
 fn agrees_with_list(section: &[u8]) -> bool
     ensures { result ≡ agreed_with_list section.now }
 {
@@ -55,6 +58,7 @@ fn agrees_with_list(section: &[u8]) -> bool
 }
 
 // The count at octet `absent` is missing and its increment too, and the count at octet `counted` is not.
+#[tactic(auto, unfolding(crate::specs::Agreement::missing_with))]
 fn missing_with(section: &[u8], absent: usize, increment: usize, counted: usize) -> bool
     ensures { result ≡ missing_with absent increment counted section.now }
 {

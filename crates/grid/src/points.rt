@@ -10,6 +10,7 @@ use crate::templates::{Template, base_end, list_count};
 use layout::Refusal;
 
 // 13 if it is met, of numbers that agree; what it answers of others is of no use: they are refused before.
+#[tactic(auto, unfolding(layout::specs::Outcomes::first_refusal))]
 pub(crate) fn points_refusal(section: &[u8], template: Template) -> Refusal
     ensures { agreed section.now ≡ true → result ≡ first_refusal 3 (points_reasons template section.now) }
 {
@@ -37,6 +38,7 @@ fn points_of(section: &[u8], template: Template) -> u64
 
 // Octets 7-10 themselves where bit 8 of the scanning mode, the lowest, is set: offset rows may then have fewer points than Ni.
 // Else Ni x Nj, below 2^64 as a product of two numbers of 32 bits.
+#[tactic(auto, unfolding(crate::specs::Points::points_without_list))]
 fn points_without_list(section: &[u8]) -> u64
     ensures { result ≡ points_without_list section.now }
 {
@@ -50,6 +52,7 @@ fn points_without_list(section: &[u8]) -> u64
 
 // The sum of `count` numbers of `width` octets each behind octet `end`, in one pass over the list: below 2^64, since count
 // and number are below 2^32.
+#[tactic(auto, unfolding(crate::specs::Points::sum_of))]
 fn list_sum(section: &[u8], end: u32, width: u8, count: u32) -> u64
     ensures { has_list width ≡ true → result ≡ sum_of end width section.now count }
 {

@@ -16,6 +16,7 @@ pub enum Template {
 }
 
 // The template of a listed number.
+#[tactic(auto, unfolding(crate::specs::Templates::template_numbered))]
 pub(crate) fn template_numbered(number: u16) -> Template
     ensures { result ≡ template_numbered number }
 {
@@ -40,6 +41,7 @@ pub(crate) fn base_end(template: Template) -> usize
 }
 
 // Whether the numbers of a list can have so many octets.
+#[tactic(auto, unfolding(crate::specs::Blocks::has_list))]
 pub(crate) fn has_list(width: u8) -> bool
     ensures { result ≡ has_list width }
 {
@@ -59,6 +61,7 @@ pub(crate) fn missing(section: &[u8], at: usize) -> bool
 }
 
 // Nj numbers if Ni is missing, else Ni numbers.
+#[tactic(auto, unfolding(crate::specs::Templates::list_count))]
 pub(crate) fn list_count(section: &[u8]) -> u32
     ensures { result ≡ list_count section.now }
 {

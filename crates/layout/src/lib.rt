@@ -81,6 +81,7 @@ pub fn opening_refusal(s: &[u8], section: u8, least: usize) -> Refusal
 
 // Once the section has the octets of its smallest total: 8 at the place `bad`, the section's own number, and the total's; 0 says that no
 // field is out of its range, and that the own number is not met. A reader tests 7 itself, so that it looks at fields only where they are.
+#[tactic(auto, unfolding(crate::specs::Outcomes::first_refusal, crate::specs::Outcomes::fitting_reasons))]
 pub fn fitting_refusal(s: &[u8], section: u8, bad: usize, own: u8, total: usize) -> Refusal
     ensures { result ≡ first_refusal section (fitting_reasons bad own total s.now) }
 {
@@ -100,6 +101,7 @@ pub fn fitting_refusal(s: &[u8], section: u8, bad: usize, own: u8, total: usize)
 // 11: the section is shorter than its total, and the place is the first octet that is not there. 21: it is longer, and the place is the
 // first octet beyond. Neither sum can pass a usize, since the other side is greater. Whether it has its total is tested first: nearly
 // every section that comes this far has it.
+#[tactic(auto, unfolding(crate::specs::Outcomes::first_refusal, crate::specs::Outcomes::total_reasons))]
 fn total_refusal(s: &[u8], section: u8, total: usize) -> Refusal
     ensures { result ≡ first_refusal section (total_reasons total s.now) }
 {
@@ -124,6 +126,7 @@ fn total_refusal(s: &[u8], section: u8, total: usize) -> Refusal
 // behind it have
 
 // An octet from `low` to `high`.
+#[tactic(auto, unfolding(crate::specs::Fields::between))]
 pub fn octet_within(s: &[u8], at: usize, low: u8, high: u8, later: usize) -> usize
     ensures { result ≡ cond (between low high (be_at s.now at 1)) later at }
 {
@@ -219,6 +222,7 @@ pub fn u32_or_missing(s: &[u8], at: usize) -> U32OrMissing
     }
 }
 
+#[tactic(auto, using(octets::proofs::Signs::kept32))]
 pub fn signed8_or_missing(s: &[u8], at: usize) -> I32OrMissing
     ensures { in_signed result ≡ means (or_missing signed) 1 (be_at s.now at 1) }
 {
@@ -230,6 +234,7 @@ pub fn signed8_or_missing(s: &[u8], at: usize) -> I32OrMissing
     }
 }
 
+#[tactic(auto, using(octets::proofs::Signs::kept32))]
 pub fn signed32_or_missing(s: &[u8], at: usize) -> I32OrMissing
     ensures { in_signed result ≡ means (or_missing signed) 4 (be_at s.now at 4) }
 {

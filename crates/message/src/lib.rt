@@ -38,6 +38,7 @@ pub struct Cut {
 }
 
 // Reads a message: 2 and 22 to 25 by its frame, and then the refusal of the first field refused.
+#[tactic(auto, unfolding(crate::specs::Messages::read_message))]
 pub fn read(message: &[u8]) -> Cut
     ensures { result ≡ read_message message.now }
 {
@@ -51,6 +52,7 @@ pub fn read(message: &[u8]) -> Cut
 
 // A section of the k-th field, from 0: those very octets of the message. No octets where the message is refused, where it has no such
 // field, and for a section that is none of the five.
+#[tactic(auto, unfolding(crate::specs::Messages::section_in))]
 pub fn section(message: &[u8], cut: Cut, k: usize, section: u8) -> &[u8]
     ensures { result.now ≡ section_in message.now cut k section }
 {
@@ -59,6 +61,7 @@ pub fn section(message: &[u8], cut: Cut, k: usize, section: u8) -> &[u8]
 }
 
 // Where the k-th field's sections stand, from 0; past the last field, nowhere.
+#[tactic(auto, using(octets::proofs::Lists::unmapped))]
 pub fn field_of(cut: Cut, k: usize) -> Sections
     ensures { result ≡ field_of cut k }
 {
@@ -72,6 +75,7 @@ pub fn field_of(cut: Cut, k: usize) -> Sections
 }
 
 // Where a section stands; one that is none of the five stands nowhere.
+#[tactic(auto, unfolding(crate::specs::Messages::numbered))]
 pub fn span_of(sections: Sections, section: u8) -> Span
     ensures { result ≡ span_of sections section }
 {
@@ -146,6 +150,7 @@ fn opening_refusal(message: &[u8], before: Sections, sections: Sections) -> Refu
 }
 
 // Whether a section is the one that stands at `before`; where that is nowhere, none does.
+#[tactic(auto, unfolding(crate::specs::Messages::same_section))]
 fn stands_there(before: Span, section: Span) -> bool
     ensures { result ≡ same_section before section }
 {
@@ -159,6 +164,7 @@ fn stands_there(before: Span, section: Span) -> bool
 }
 
 // The frame: section 0, the walk over the sections, the last four octets.
+#[tactic(auto, using(crate::proofs::Clear::starts), unfolding(crate::specs::Messages::cut_message))]
 fn cut_frame(message: &[u8]) -> Cut
     ensures { result ≡ cut_message message.now }
 {
@@ -172,6 +178,7 @@ fn cut_frame(message: &[u8]) -> Cut
 }
 
 // 2, and 22 by the length or by section 0.
+#[tactic(auto, unfolding(crate::specs::Messages::start_refusal, layout::specs::Outcomes::first_refusal))]
 fn start_refusal(message: &[u8]) -> Refusal
     ensures { result ≡ start_refusal message.now }
 {
@@ -249,6 +256,7 @@ fn section_refusal(section: &[u8], last: u8, count: usize) -> Refusal
 }
 
 // At the last four octets: 23 behind another section than a 7, then 25 where they are not 7777.
+#[tactic(auto, unfolding(crate::specs::Walk::end_refusal, layout::specs::Outcomes::first_refusal))]
 fn end_refusal(last: u8, right: bool) -> Refusal
     ensures { result ≡ end_refusal last right }
 {
@@ -263,6 +271,7 @@ fn end_refusal(last: u8, right: bool) -> Refusal
 }
 
 // Whether a section of number `next` may stand behind one of number `last`; before the first there is none, 0.
+#[tactic(auto, unfolding(crate::specs::Walk::may_follow))]
 fn may_follow(last: u8, next: u8) -> bool
     ensures { result ≡ may_follow last next }
 {
@@ -273,6 +282,7 @@ fn may_follow(last: u8, next: u8) -> bool
     }
 }
 
+#[tactic(auto, unfolding(layout::specs::Fields::between))]
 fn within(low: u8, high: u8, x: u8) -> bool
     ensures { result ≡ between low high x }
 {
@@ -283,6 +293,7 @@ fn within(low: u8, high: u8, x: u8) -> bool
 }
 
 // A section 6 other than 6 octets with 255.
+#[tactic(auto, unfolding(crate::specs::Walk::other_six))]
 fn other_six(section: &[u8]) -> bool
     ensures { result ≡ other_six section.now }
 {
@@ -296,6 +307,7 @@ fn other_six(section: &[u8]) -> bool
 }
 
 // The sections in force, with one more: 2 and 6 are passed over.
+#[tactic(auto, unfolding(crate::specs::Walk::in_force))]
 fn in_force(sections: Sections, number: u8, span: Span) -> Sections
     ensures { result ≡ in_force sections number span }
 {

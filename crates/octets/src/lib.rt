@@ -50,6 +50,7 @@ pub fn u64_at(s: &[u8], at: usize) -> u64
 }
 
 // What a number of one octet says by sign and magnitude.
+#[tactic(auto, using(crate::proofs::Signs::kept32), unfolding(crate::specs::Octets::sign_of))]
 pub fn signed8(raw: u8) -> i32
     ensures { result ≡ sign_of 1 raw }
 {
@@ -57,6 +58,7 @@ pub fn signed8(raw: u8) -> i32
 }
 
 // The same of two octets.
+#[tactic(auto, using(crate::proofs::Signs::kept32), unfolding(crate::specs::Octets::sign_of))]
 pub fn signed16(raw: u16) -> i32
     ensures { result ≡ sign_of 2 raw }
 {
@@ -64,6 +66,7 @@ pub fn signed16(raw: u16) -> i32
 }
 
 // The same of four octets.
+#[tactic(auto, using(crate::proofs::Signs::kept32), unfolding(crate::specs::Octets::sign_of))]
 pub fn signed32(raw: u32) -> i32
     ensures { result ≡ sign_of 4 raw }
 {
@@ -71,6 +74,7 @@ pub fn signed32(raw: u32) -> i32
 }
 
 // The number by sign and magnitude in the two octets from octet `at` on.
+#[tactic(auto, using(crate::proofs::Signs::kept32))]
 pub fn signed16_at(s: &[u8], at: usize) -> i32
     ensures { result ≡ sign_of 2 (be_at s.now at 2) }
 {
@@ -78,6 +82,7 @@ pub fn signed16_at(s: &[u8], at: usize) -> i32
 }
 
 // The same in the four octets from octet `at` on.
+#[tactic(auto, using(crate::proofs::Signs::kept32))]
 pub fn signed32_at(s: &[u8], at: usize) -> i32
     ensures { result ≡ sign_of 4 (be_at s.now at 4) }
 {

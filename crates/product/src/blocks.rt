@@ -270,6 +270,7 @@ fn read_aerosol(section: &[u8], end: u16) -> AerosolPart
     }
 }
 
+#[tactic(auto, unfolding(crate::specs::Blocks::interval_in))]
 fn read_interval(section: &[u8], end: u16, timed: bool) -> Interval
     ensures { interval_in result ≡ cond timed (values_of (after end interval) section.now) (none ∷ []) }
 {

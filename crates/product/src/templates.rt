@@ -70,6 +70,7 @@ pub(crate) fn part_end(kind: PartKind) -> u16
 }
 
 // The octet at which so many time ranges end, or the part before them where the template has none.
+#[tactic(auto, unfolding(crate::specs::Templates::ranges_end))]
 pub(crate) fn ranges_end(kind: PartKind, timed: bool, ranges: u8) -> u32
     ensures { result ≡ ranges_end kind timed ranges }
 {
@@ -82,6 +83,7 @@ pub(crate) fn ranges_end(kind: PartKind, timed: bool, ranges: u8) -> u32
 }
 
 // The octets of a section with so many time ranges, members and coordinate values.
+#[tactic(auto, unfolding(crate::specs::Templates::total))]
 pub(crate) fn total_of(
     kind: PartKind,
     timed: bool,
@@ -95,6 +97,7 @@ pub(crate) fn total_of(
 }
 
 // n, and 0 where the template has no time ranges.
+#[tactic(auto, unfolding(crate::specs::Templates::ranges_at))]
 pub(crate) fn range_count(section: &[u8], kind: PartKind, timed: bool) -> u8
     ensures { result ≡ ranges_at kind timed section.now }
 {

@@ -8,6 +8,7 @@ use crate::{Answer, read};
 use layout::Span;
 
 // The template by which a section is read, if it is.
+#[tactic(auto, unfolding(layout::specs::Outcomes::if_read, crate::specs::Section4::told))]
 fn template_read(section: &[u8]) -> Template
     ensures { result ≡ template_read section.now }
 {

@@ -28,6 +28,7 @@ pub enum Record {
 }
 
 // The record at the start of these octets.
+#[tactic(auto, using(cutting::proofs::Taken::taken, cutting::proofs::Walks::rest_at, filing::proofs::StoredIssues::too_large), unfolding(crate::specs::Records::record_of))]
 pub fn record_of(octets: &[u8]) -> Record
     ensures { result ≡ record_of octets.now }
 {
@@ -165,6 +166,7 @@ pub struct QueueFiled {
 
 // Files a queue to the shelf, which is handed back: as it was where the whole queue is refused, with 2 or 19, and otherwise with each
 // record filed after the one before it. A refused record doesn't stop the next.
+#[tactic(auto, unfolding(crate::specs::Queues::queue_filed))]
 pub fn file(shelf: Shelf, queue: &[u8]) -> QueueFiled
     ensures { result ≡ queue_filed shelf queue.now }
 {
@@ -189,6 +191,7 @@ pub fn file(shelf: Shelf, queue: &[u8]) -> QueueFiled
 }
 
 // The number with which a whole queue is refused, before anything of it is filed, and 0 if it is not.
+#[tactic(auto, unfolding(crate::specs::Queues::queue_refusal))]
 pub fn refusal_number(queue: &[u8]) -> u8
     ensures { result ≡ queue_refusal queue.now }
 {

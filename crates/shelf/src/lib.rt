@@ -36,6 +36,7 @@ impl Shelf {
 }
 
 // What a slot holds. There is nothing past the last.
+#[tactic(auto, using(octets::proofs::Lists::unmapped))]
 pub fn slot_of(shelf: Shelf, slot: usize) -> Slot
     ensures { result ≡ slot_at shelf slot }
 {
@@ -114,6 +115,7 @@ fn greater_slot(a: Slot, b: Slot) -> Slot
 }
 
 // The slot that holds nothing.
+#[tactic(auto, unfolding(crate::specs::Shelves::blank))]
 pub fn blank_slot() -> Slot
     ensures { result ≡ blank }
 {

@@ -35,6 +35,7 @@ pub fn slot_of(octets: &[u8], slot: usize) -> Slot
 }
 
 // Octet 1 is 1 or the slot is empty: other numbers are for what a later make may store there, which this one can't compare.
+#[tactic(auto, unfolding(crate::specs::ShelfOctets::slot_in))]
 fn slot_in(octets: &[u8]) -> Slot
     ensures { result ≡ slot_in octets.now }
 {
@@ -45,6 +46,7 @@ fn slot_in(octets: &[u8]) -> Slot
     Slot { held: true, card }
 }
 
+#[tactic(auto, unfolding(crate::specs::ShelfOctets::card_in))]
 fn card_in(octets: &[u8]) -> Card
     ensures { result ≡ card_in octets.now }
 {
@@ -107,6 +109,7 @@ fn write_card(out: &mut [u8], at: usize, card: Card) -> usize
     lent::octets(out, g, &product)
 }
 
+#[tactic(auto, using(octets::proofs::Signs::wide_fits, crate::proofs::Years::sum_fits))]
 fn raw_year(year: i32) -> u32
     ensures { result ≡ raw_year year }
 {

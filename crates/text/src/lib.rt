@@ -8,6 +8,7 @@ ghost use Rattle.text.specs.Text.{decimal, whole_number, time_text, refused_text
 
 use layout::Refusal;
 
+#[tactic(auto, using(crate::proofs::Digits::same_digits))]
 pub fn number(out: &mut [u8], at: usize, n: u64) -> usize
     ensures { written out.new result ≡ append (written out.old at) (decimal n) }
 {
@@ -17,6 +18,7 @@ pub fn number(out: &mut [u8], at: usize, n: u64) -> usize
 }
 
 // A number and the octet behind it, as a space or a line end.
+#[tactic(auto, using(lent::proofs::Written::and_then))]
 pub fn number_then(out: &mut [u8], at: usize, n: u64, end: u8) -> usize
     ensures { written out.new result ≡ append (written out.old at) (decimal n ++ (end ∷ [])) }
 {

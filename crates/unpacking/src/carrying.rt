@@ -27,6 +27,7 @@ pub struct Run {
 }
 
 // The run: a step for each place, from where it stands to the end of the row.
+#[tactic(auto, using(crate::proofs::Carried::ends))]
 pub(crate) fn finish(packed: &[u8], from: Run, bits: u32, row: &mut [u32])
     requires { Stands bits packed.now row.old from × (bits ≤ 32) }
     ensures { row.new ≡ unpacked bits (length row.old) packed.now }

@@ -118,6 +118,7 @@ fn groups(packed: &[u8], width: u32, per: usize, octets: usize, bits: u32, row: 
 }
 
 // The numbers of one group, up to place `end`.
+#[tactic(auto, using(crate::proofs::Runs::next_place))]
 fn group(packed: &[u8], from: Run, width: u32, row: &mut [u32], end: usize)
     requires { Stands width packed.now row.old from × Groupable width packed.now row.old from end }
     ensures { First width packed.now row.new end }

@@ -194,6 +194,7 @@ fn unsigned(x: U32OrMissing) -> i64
     }
 }
 
+#[tactic(auto, using(octets::proofs::Signs::wide_fits))]
 fn signed(x: I32OrMissing) -> i64
     ensures { result ≡ row_number (in_signed x) }
 {
