@@ -1,6 +1,7 @@
 -- `skogmund_file`: 19, or as `filing::file_by_value` answers, and then what is kept.
 -- Assumes nothing.
-use Prim.Native.Nat.{ℕ, ◌≤◌}
+use mathlib.Core.List.{List}
+use Prim.Native.Nat.{ℕ}
 use mathlib.Core.Path.{◌≡◌, sym, ap, ap₂, ◌∙◌}
 use borrow.Author.Tests.{lt-ltb, le-ltb}
 use Rattle.shelf.specs.declared.Shelf.{Shelf}
@@ -14,6 +15,11 @@ use Rattle.skogmund.specs.Shelves.{field_kept, filed_field}
 use Rattle.filing.proofs.RefusalNumbers.{filing-refuses}
 use Rattle.skogmund.proofs.shelves.skogmund_file.Goals as goal
 
+-- what is filed is filed to the shelf that the octets are, with the issue that is stored
+filed-is : {done : Filed} {shelf : Shelf} {issue : Issue} (held : List ℕ) (stored slot : ℕ) (s1 s3 s4 s5 s7 : List ℕ)
+    → done ≡ filed_of shelf slot issue s1 s3 s4 s5 s7 → shelf ≡ shelf_in held → issue ≡ issue_from stored → done ≡ filed_of (shelf_in held) slot (issue_from stored) s1 s3 s4 s5 s7
+filed-is held stored slot s1 s3 s4 s5 s7 e s i = e ∙ ap₂ (λ (s : Shelf) (i : Issue). filed_of s slot i s1 s3 s4 s5 s7) s i
+
 pub returns-in_default : goal.returns-in_default
 unfolding filed_field
 returns-in_default c =
@@ -22,28 +28,32 @@ returns-in_default c =
 
 pub code-requires : goal.code-requires
 code-requires c =
-    let stored_is : (c.args.issue_plus_1 ≤ 4294967296) × (c.in-Is.issue ≡ issue_from c.args.issue_plus_1) = stored-issue _ _ (sym c.issue_from.ensures ∙ c.in-Is.is) in
-    let filed-is : c.file_by_value-done.result ≡ (let a = c.args in filed_of (shelf_in a.shelf.now) a.slot (issue_from a.issue_plus_1) a.section1.now a.section3.now a.section4.now a.section5.now a.section7.now) = let a = c.args in c.file_by_value-done.ensures ∙ ap₂ (λ (s : Shelf) (i : Issue). filed_of s a.slot i a.section1.now a.section3.now a.section4.now a.section5.now a.section7.now) c.read.ensures (stored_is).1 in
-    (filing-refuses _ _ _ _ _ _ _ _ _ (sym (ap (λ (x : Filed). x.answer) (filed-is)) ∙ c.in-Refused.is)).placed.within
+    let stored_is = stored-issue _ _ (sym c.issue_from.ensures ∙ c.in-Is.is) in
+    let a = c.args in
+    let filed = filed-is a.shelf.now a.issue_plus_1 a.slot a.section1.now a.section3.now a.section4.now a.section5.now a.section7.now c.file_by_value-done.ensures c.read.ensures stored_is.1 in
+    (filing-refuses _ _ _ _ _ _ _ _ _ (sym (ap (λ (x : Filed). x.answer) filed) ∙ c.in-Refused.is)).placed.within
 
 pub returns-in-Kept : goal.returns-in-Kept
 unfolding filed_field field_kept
 returns-in-Kept c =
-    let stored_is : (c.args.issue_plus_1 ≤ 4294967296) × (c.in-Is.issue ≡ issue_from c.args.issue_plus_1) = stored-issue _ _ (sym c.issue_from.ensures ∙ c.in-Is.is) in
-    let filed-is : c.file_by_value-done.result ≡ (let a = c.args in filed_of (shelf_in a.shelf.now) a.slot (issue_from a.issue_plus_1) a.section1.now a.section3.now a.section4.now a.section5.now a.section7.now) = let a = c.args in c.file_by_value-done.ensures ∙ ap₂ (λ (s : Shelf) (i : Issue). filed_of s a.slot i a.section1.now a.section3.now a.section4.now a.section5.now a.section7.now) c.read.ensures (stored_is).1 in
-    rw (le-ltb _ _ (stored_is).0, ← filed-is, c.in-Kept.is) c.keep.ensures
+    let stored_is = stored-issue _ _ (sym c.issue_from.ensures ∙ c.in-Is.is) in
+    let a = c.args in
+    let filed = filed-is a.shelf.now a.issue_plus_1 a.slot a.section1.now a.section3.now a.section4.now a.section5.now a.section7.now c.file_by_value-done.ensures c.read.ensures stored_is.1 in
+    rw (le-ltb _ _ stored_is.0, ← filed, c.in-Kept.is) c.keep.ensures
 
 pub returns-in-Passed : goal.returns-in-Passed
 unfolding filed_field field_kept
 returns-in-Passed c =
-    let stored_is : (c.args.issue_plus_1 ≤ 4294967296) × (c.in-Is.issue ≡ issue_from c.args.issue_plus_1) = stored-issue _ _ (sym c.issue_from.ensures ∙ c.in-Is.is) in
-    let filed-is : c.file_by_value-done.result ≡ (let a = c.args in filed_of (shelf_in a.shelf.now) a.slot (issue_from a.issue_plus_1) a.section1.now a.section3.now a.section4.now a.section5.now a.section7.now) = let a = c.args in c.file_by_value-done.ensures ∙ ap₂ (λ (s : Shelf) (i : Issue). filed_of s a.slot i a.section1.now a.section3.now a.section4.now a.section5.now a.section7.now) c.read.ensures (stored_is).1 in
-    rw (le-ltb _ _ (stored_is).0, ← filed-is, c.in-Passed.is) c.keep-in-Passed.ensures
+    let stored_is = stored-issue _ _ (sym c.issue_from.ensures ∙ c.in-Is.is) in
+    let a = c.args in
+    let filed = filed-is a.shelf.now a.issue_plus_1 a.slot a.section1.now a.section3.now a.section4.now a.section5.now a.section7.now c.file_by_value-done.ensures c.read.ensures stored_is.1 in
+    rw (le-ltb _ _ stored_is.0, ← filed, c.in-Passed.is) c.keep-in-Passed.ensures
 
 pub returns-in-Refused : goal.returns-in-Refused
 unfolding filed_field field_kept
 returns-in-Refused c =
-    let stored_is : (c.args.issue_plus_1 ≤ 4294967296) × (c.in-Is.issue ≡ issue_from c.args.issue_plus_1) = stored-issue _ _ (sym c.issue_from.ensures ∙ c.in-Is.is) in
-    let filed-is : c.file_by_value-done.result ≡ (let a = c.args in filed_of (shelf_in a.shelf.now) a.slot (issue_from a.issue_plus_1) a.section1.now a.section3.now a.section4.now a.section5.now a.section7.now) = let a = c.args in c.file_by_value-done.ensures ∙ ap₂ (λ (s : Shelf) (i : Issue). filed_of s a.slot i a.section1.now a.section3.now a.section4.now a.section5.now a.section7.now) c.read.ensures (stored_is).1 in
-    rw (le-ltb _ _ (stored_is).0, ← filed-is, c.in-Refused.is)
+    let stored_is = stored-issue _ _ (sym c.issue_from.ensures ∙ c.in-Is.is) in
+    let a = c.args in
+    let filed = filed-is a.shelf.now a.issue_plus_1 a.slot a.section1.now a.section3.now a.section4.now a.section5.now a.section7.now c.file_by_value-done.ensures c.read.ensures stored_is.1 in
+    rw (le-ltb _ _ stored_is.0, ← filed, c.in-Refused.is)
     (ap (λ (n : ℕ). done_both n c.args.shelf.now c.args.kept.now) c.code.ensures)

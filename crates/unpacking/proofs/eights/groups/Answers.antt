@@ -28,7 +28,7 @@ overflow_add-run c =
 pub group-requires : goal.group-requires
 group-requires c =
     let room : c.loop-row.run.written + c.args.per ≤ length c.loop-row.row = omega (arith, c.loop-row-test.true, c.loop-row.invariant.stands.within) in
-    let octets : c.loop-row.run.taken + c.args.octets ≤ length c.args.packed.now = let a = c.args in omega (arith, c.loop-row.invariant.there) in
+    let octets : c.loop-row.run.taken + c.args.octets ≤ length c.args.packed.now = omega (arith, c.loop-row.invariant.there) in
     let whole : (c.loop-row.run.written + c.args.per) * c.args.width ≡ 8 * (c.loop-row.run.taken + c.args.octets) = omega (arith, add-mul c.loop-row.run.written c.args.per c.args.width, c.loop-row.invariant.stands.holds.place, c.loop-row.invariant.nothing, c.requires.whole) in
     let p = c.requires in (
       c.loop-row.invariant.stands,
@@ -37,7 +37,7 @@ group-requires c =
 
 pub overflow_add-run-in-loop-row : goal.overflow_add-run-in-loop-row
 overflow_add-run-in-loop-row c =
-    let octets : c.loop-row.run.taken + c.args.octets ≤ length c.args.packed.now = let a = c.args in omega (arith, c.loop-row.invariant.there) in
+    let octets : c.loop-row.run.taken + c.args.octets ≤ length c.args.packed.now = omega (arith, c.loop-row.invariant.there) in
     omega (arith, octets, c.well_formed)
 
 pub overflow_add-run-in-loop-row-2 : goal.overflow_add-run-in-loop-row-2
@@ -53,7 +53,7 @@ loop-row-smaller c =
 pub loop-row-preserved : goal.loop-row-preserved
 loop-row-preserved c =
     let room : c.loop-row.run.written + c.args.per ≤ length c.loop-row.row = omega (arith, c.loop-row-test.true, c.loop-row.invariant.stands.within) in
-    let octets : c.loop-row.run.taken + c.args.octets ≤ length c.args.packed.now = let a = c.args in omega (arith, c.loop-row.invariant.there) in
+    let octets : c.loop-row.run.taken + c.args.octets ≤ length c.args.packed.now = omega (arith, c.loop-row.invariant.there) in
     let whole : (c.loop-row.run.written + c.args.per) * c.args.width ≡ 8 * (c.loop-row.run.taken + c.args.octets) = omega (arith, add-mul c.loop-row.run.written c.args.per c.args.width, c.loop-row.invariant.stands.holds.place, c.loop-row.invariant.nothing, c.requires.whole) in
     let a = c.args in
     let r = c.loop-row.run in
