@@ -2,17 +2,17 @@
 -- Assumes nothing.
 use mathlib.Core.Path.{◌≡◌, refl, sym, ap, ◌∙◌}
 use mathlib.Core.List.{List, [], ◌∷◌, ◌++◌}
-use mathlib.Core.Bool.{Bool, true, false, cond}
+use mathlib.Core.Bool.{Bool, true, false, not, cond}
 use mathlib.Core.Logic.{◌⊎◌, inl, inr}
-use Prim.Native.Nat.{ℕ, ◌≤◌}
+use Prim.Native.Nat.{ℕ, ◌+◌, ◌≤◌}
 use native.Mathlib.Omega.{arith}
 use lib.Dec.{eqb, ltb}
 use lib.ListN.{length}
-use borrow.Author.Tests.{le-ltb, ltb-false, eqb-false, not-true}
+use borrow.Author.Tests.{le-ltb, ltb-false, ne_eqb}
 use Rattle.octets.specs.Octets.{be_at}
-use Rattle.layout.specs.Fields.{Value}
-use Rattle.layout.specs.Outcomes.{Reason, reason, Outcome, refused, read, refusal, refusal_of, refused_by, if_read, first_of, first_refusal, no_refusal, head_reasons, opening_reasons, total_reasons, fitting_reasons, template_reasons}
-use Rattle.layout.specs.declared.Refusal.{Refusal}
+use Rattle.layout.specs.Fields.{Value, Field, FieldAt, width, allowed, raw_at, placed, after, lowest_bad, bad_place}
+use Rattle.layout.specs.Outcomes.{Reason, reason, bad_field, Outcome, refused, read, refusal, refused_by, Check, check_of, and_check, if_read, first_of, first_refusal, head_reasons, opening_reasons, total_reasons, fitting_reasons, template_reasons, if_allowed, all_allowed}
+use Rattle.std.specs.Prelude.{Ok, Err}
 use Rattle.layout.proofs.Ranges.{test-same, same_test}
 
 -- ---- accepted: no reason holds
@@ -54,87 +54,89 @@ unfolding first_of
 first-append section [] b o = refl
 first-append section (r ∷ rs) b o = rw (first-append section rs b o)
 
--- ---- the first reason as a program's refusal
+-- ---- the first reason as a program's check
 
--- no reason that holds has the number 0
-unfoldable pub Numbered : List Reason → Type 0
-Numbered [] = Unit {0}
-Numbered (r ∷ rs) = (r.holds ≡ true → eqb r.number 0 ≡ false) × Numbered rs
+-- what an answer is that goes on only where a check passes
+abbrev pub check_then : Check → Outcome → Outcome
+check_then (Err x) o = refused_by x
+check_then (Ok u) o = o
 
--- the number of `x` tells whether it is one, and so it does with one reason more
-with-one-more : {A : Type 0} (tell : Refusal → A) (o : A) (x y : Refusal) {rest : A} → rest ≡ cond (eqb x.number 0) o (tell x) → (t : Bool) → (t ≡ true → eqb y.number 0 ≡ false) → let z = cond t y x in cond t (tell y) rest ≡ cond (eqb z.number 0) o (tell z)
-with-one-more tell o x y e true n = rw (n refl)
-with-one-more tell o x y e false n = e
-
--- so the number tells whether there is one
-pub by-refusal : (section : ℕ) (rs : List Reason) (o : Outcome) → Numbered rs → first_of section rs o ≡ cond (eqb (first_refusal section rs).number 0) o (refused_by (first_refusal section rs))
-unfolding first_of first_refusal Numbered
-by-refusal section [] o p = refl
-by-refusal section (r ∷ rs) o p =
-    with-one-more refused_by o (first_refusal section rs) (refusal r.number section r.place) (by-refusal section rs o p.1) r.holds p.0
-
--- where it is 0, none holds
-pub zero-none : (section : ℕ) (rs : List Reason) → Numbered rs → (first_refusal section rs).number ≡ 0 → NoneHold rs
-unfolding first_refusal NoneHold Numbered
-zero-none section [] p e = tt
-zero-none section (r ∷ rs) p e = by-holding (zero-none section rs p.1) r.holds refl e
-  where
-    by-holding : ((first_refusal section rs).number ≡ 0 → NoneHold rs) → (t : Bool) → r.holds ≡ t → (cond t (refusal r.number section r.place) (first_refusal section rs)).number ≡ 0 → (r.holds ≡ false) × NoneHold rs
-    by-holding rest true h e = absurd (eqb-false r.number 0 (p.0 h) e)
-    by-holding rest false h e = (h, rest e)
-
--- the first is the outcome's where nothing else refuses
-pub refusal-first : (section : ℕ) (rs : List Reason) (vs : List Value) → first_refusal section rs ≡ refusal_of (first_of section rs (read vs))
+pub first-check : (section : ℕ) (rs : List Reason) (o : Outcome) → first_of section rs o ≡ check_then (first_refusal section rs) o
 unfolding first_of first_refusal
-refusal-first section [] vs = refl
-refusal-first section (r ∷ rs) vs = by-holding (first_of section rs (read vs)) (refusal-first section rs vs) r.holds
+first-check section [] o = refl
+first-check section (r ∷ rs) o = by-holding (first_refusal section rs) (first-check section rs o) r.holds
   where
-    by-holding : {x : Refusal} (o : Outcome) → x ≡ refusal_of o → (t : Bool) → cond t (refusal r.number section r.place) x ≡ refusal_of (cond t (refused r.number section r.place) o)
+    by-holding : {p : Outcome} (c : Check) → p ≡ check_then c o → (t : Bool) → cond t (refused r.number section r.place) p ≡ check_then (cond t (Err (refusal r.number section r.place)) c) o
+    by-holding c rest true = refl
+    by-holding c rest false = rest
+
+-- where it passes, none holds
+pub passed-none : (section : ℕ) (rs : List Reason) → first_refusal section rs ≡ Ok tt → NoneHold rs
+passed-none section rs e = (read_none section rs (read []) [] (first-check section rs (read []) ∙ ap (λ (c : Check). check_then c (read [])) e)).0
+
+-- it is the outcome's where nothing else refuses
+pub check-first : (section : ℕ) (rs : List Reason) (vs : List Value) → first_refusal section rs ≡ check_of (first_of section rs (read vs))
+unfolding first_of first_refusal
+check-first section [] vs = refl
+check-first section (r ∷ rs) vs = by-holding (first_of section rs (read vs)) (check-first section rs vs) r.holds
+  where
+    by-holding : {c : Check} (o : Outcome) → c ≡ check_of o → (t : Bool) → cond t (Err (refusal r.number section r.place)) c ≡ check_of (cond t (refused r.number section r.place) o)
     by-holding o rest true = refl
     by-holding o rest false = rest
 
--- and one list and then another is the first of the one, or else of the other
-pub refusal-append : (section : ℕ) (a b : List Reason) → Numbered a → first_refusal section (a ++ b) ≡ cond (eqb (first_refusal section a).number 0) (first_refusal section b) (first_refusal section a)
-unfolding first_refusal Numbered
-refusal-append section [] b p = refl
-refusal-append section (r ∷ rs) b p =
-    with-one-more (λ x. x) (first_refusal section b) (first_refusal section rs) (refusal r.number section r.place) (refusal-append section rs b p.1) r.holds p.0
-
--- ---- the reasons that the sections share: none of them has the number 0
-
-head-numbered : (section : ℕ) (s : List ℕ) → Numbered (head_reasons section s)
-unfolding Numbered
-head-numbered section s = ((λ h. refl), ((λ h. refl), ((λ h. refl), ((λ h. refl), tt))))
-
-opening-numbered : (section least : ℕ) (s : List ℕ) → Numbered (opening_reasons section least s)
-unfolding Numbered opening_reasons
-opening-numbered section least s = ((λ h. refl), ((λ h. refl), ((λ h. refl), ((λ h. refl), ((λ h. refl), tt)))))
-
-fitting-numbered : (bad own total : ℕ) (s : List ℕ) → Numbered (fitting_reasons bad own total s)
-unfolding Numbered fitting_reasons total_reasons
-fitting-numbered bad own total s = ((λ h. refl), (not-true _, ((λ h. refl), ((λ h. refl), tt))))
+-- one list and then another is one check and then another
+pub check_append : (section : ℕ) (a b : List Reason) → first_refusal section (a ++ b) ≡ and_check (first_refusal section a) (first_refusal section b)
+unfolding first_refusal and_check
+check_append section [] b = refl
+check_append section (r ∷ rs) b = by-holding (first_refusal section rs) (first_refusal section b) r.holds (check_append section rs b)
+  where
+    by-holding : (c e : Check) (t : Bool) {d : Check} → d ≡ and_check c e → cond t (Err (refusal r.number section r.place)) d ≡ and_check (cond t (Err (refusal r.number section r.place)) c) e
+    by-holding c e true rest = refl
+    by-holding c e false rest = rest
 
 -- 5 behind the head's
-pub opening-by-head : (section least : ℕ) (s : List ℕ) → let head = first_refusal section (head_reasons section s) in first_refusal section (opening_reasons section least s) ≡ cond (eqb head.number 0) (cond (ltb (length s) least) (refusal 5 section 0) no_refusal) head
+pub opening_by_head : (section least : ℕ) (s : List ℕ) → first_refusal section (opening_reasons section least s) ≡ and_check (first_refusal section (head_reasons section s)) (cond (ltb (length s) least) (Err (refusal 5 section 0)) (Ok tt))
 unfolding opening_reasons first_refusal
-opening-by-head section least s = refusal-append section (head_reasons section s) (reason 5 (ltb (length s) least) ∷ []) (head-numbered section s)
+opening_by_head section least s = check_append section (head_reasons section s) (reason 5 (ltb (length s) least) ∷ [])
 
--- what a reader goes by: the refusal that it is told of them, and its number
-pub head_first : (section : ℕ) (s : List ℕ) (o : Outcome) → first_of section (head_reasons section s) o ≡ cond (eqb (first_refusal section (head_reasons section s)).number 0) o (refused_by (first_refusal section (head_reasons section s)))
-head_first section s o = by-refusal section (head_reasons section s) o (head-numbered section s)
+-- ---- the fields' checks one after the other
 
-pub opening-first : (section least : ℕ) (s : List ℕ) (o : Outcome) → first_of section (opening_reasons section least s) o ≡ cond (eqb (first_refusal section (opening_reasons section least s)).number 0) o (refused_by (first_refusal section (opening_reasons section least s)))
-opening-first section least s o = by-refusal section (opening_reasons section least s) o (opening-numbered section least s)
+-- a section's fields, each behind the first octet: they are allowed, or 8 at the lowest that is not
+pub fields_first : (section end k : ℕ) (fs : List Field) (s : List ℕ) (o : Outcome) → 1 ≤ k → first_of section (bad_field (bad_place (placed end k fs) s) ∷ []) o ≡ check_then (all_allowed section (placed end k fs) s) o
+unfolding first_of lowest_bad all_allowed and_check placed
+fields_first section end k [] s o h = refl
+fields_first section end k (f ∷ fs) s o h =
+    let rest = placed end (k + width f) fs in
+    by-allowed (bad_place rest s) (all_allowed section rest s) (allowed f (be_at s (end + k) (width f))) (fields_first section end (k + width f) fs s o (omega arith))
+  where
+    there : not (eqb (end + k) 0) ≡ true
+    there = rw (ne_eqb (end + k) 0 (λ e. omega arith))
 
-pub template-first : (section smallest bad own total : ℕ) (s : List ℕ) (o : Outcome) → first_of section (template_reasons smallest bad own total s) o ≡ cond (ltb (length s) smallest) (refused 7 section 0) (cond (eqb (first_refusal section (fitting_reasons bad own total s)).number 0) o (refused_by (first_refusal section (fitting_reasons bad own total s))))
-unfolding first_of template_reasons
-template-first section smallest bad own total s o =
-    ap (cond (ltb (length s) smallest) (refused 7 section 0)) (by-refusal section (fitting_reasons bad own total s) o (fitting-numbered bad own total s))
+    by-allowed : (later : ℕ) (c : Check) (t : Bool) → cond (not (eqb later 0)) (refused 8 section later) o ≡ check_then c o → let bad = cond t later (end + k) in cond (not (eqb bad 0)) (refused 8 section bad) o ≡ check_then (and_check (if_allowed section (end + k) t) c) o
+    by-allowed later c true rest = rest
+    by-allowed later c false rest = rw there refl
 
--- where a reader is told none, its own number is not met
-pub none-own : (section bad own total : ℕ) (s : List ℕ) → (first_refusal section (fitting_reasons bad own total s)).number ≡ 0 → own ≡ 0
-unfolding NoneHold fitting_reasons
-none-own section bad own total s e = test-same _ _ (zero-none section (fitting_reasons bad own total s) (fitting-numbered bad own total s) e).1.0
+-- two runs of fields that meet
+pub allowed_append : (section : ℕ) (a b : List FieldAt) (s : List ℕ) → all_allowed section (a ++ b) s ≡ and_check (all_allowed section a s) (all_allowed section b s)
+unfolding all_allowed and_check
+allowed_append section [] b s = refl
+allowed_append section (p ∷ ps) b s = by-allowed (all_allowed section ps s) (all_allowed section b s) (allowed p.field (raw_at p s)) (allowed_append section ps b s)
+  where
+    by-allowed : (c e : Check) (t : Bool) {d : Check} → d ≡ and_check c e → and_check (if_allowed section p.at t) d ≡ and_check (and_check (if_allowed section p.at t) c) e
+    by-allowed c e true rest = rest
+    by-allowed c e false rest = refl
+
+-- a reader's checks once the template is known: 7, the fields, its own number, the total
+pub template_checks : (section smallest own total : ℕ) (fs : List Field) (s : List ℕ) (o : Outcome) → first_of section (template_reasons smallest (bad_place (after 0 fs) s) own total s) o
+    ≡ cond (ltb (length s) smallest) (refused 7 section 0) (check_then (all_allowed section (after 0 fs) s) (cond (eqb own 0) (check_then (first_refusal section (total_reasons total s)) o) (refused own section 0)))
+unfolding first_of template_reasons fitting_reasons
+template_checks section smallest own total fs s o =
+    ap (cond (ltb (length s) smallest) (refused 7 section 0))
+    (fields_first section 0 1 fs s _ (omega arith) ∙ ap (check_then (all_allowed section (after 0 fs) s)) (by-own (eqb own 0) (first-check section (total_reasons total s) o)))
+  where
+    by-own : (t : Bool) {p q : Outcome} → p ≡ q → cond (not t) (refused own section 0) p ≡ cond t q (refused own section 0)
+    by-own true e = e
+    by-own false e = refl
 
 -- ---- what it means that none of them holds
 

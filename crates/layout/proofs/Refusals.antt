@@ -3,14 +3,14 @@
 use Prim.Native.Nat.{ℕ, ◌+◌, ◌<◌, ◌≤◌}
 use native.Mathlib.Omega.{arith}
 use mathlib.Core.Path.{◌≡◌, refl, sym, subst}
-use mathlib.Core.Logic.{◌⊎◌, inl, inr}
 use mathlib.Core.List.{List, [], ◌∷◌, ◌++◌}
 use mathlib.Core.Bool.{Bool, true, false, not, cond, true≢false, ◌&&◌}
 use lib.Dec.{leb, ltb, eqb}
 use lib.ListN.{length}
 use borrow.Author.Tests.{eqb-true, eq-eqb, ne_eqb, leb-true, ltb-true, ltb-false}
 use Rattle.layout.specs.Fields.{Field, held, said, shown, width, allowed, raw, FieldAt, placed, after, bad_place, lowest_bad, raw_at}
-use Rattle.layout.specs.Outcomes.{Outcome, refused, read, refusal, refused_by, Reason, reason, first_of, first_refusal, no_refusal, and_then, head_reasons, opening_reasons, total_reasons, fitting_reasons, template_reasons}
+use Rattle.layout.specs.Outcomes.{Outcome, refused, read, refusal, refused_by, Reason, reason, first_of, first_refusal, Check, if_allowed, and_then, head_reasons, opening_reasons, total_reasons, fitting_reasons, template_reasons}
+use Rattle.std.specs.Prelude.{Ok, Err}
 use Rattle.layout.specs.Refusals.{Row, row, one_of, numbers_of, has_place, last_place, Listed, head_numbers, opening_numbers, fitting_numbers, template_numbers}
 use Rattle.layout.specs.declared.Refusal.{Refusal}
 use Rattle.layout.proofs.Outcomes.{NoneHold, either}
@@ -70,6 +70,11 @@ unfolding and_then
 then-refuses table (refused number section place) next p q = p
 then-refuses table (read vs) next p q = q
 
+-- a check is passed, or its refusal is one of the table
+pub data PassedOrListed (table : List Row) : Check → Type 0 where
+  passed : PassedOrListed table (Ok tt)
+  listed : (x : Refusal) → Listed table x → PassedOrListed table (Err x)
+
 -- ---- by reasons
 
 -- a number of the table that has no place
@@ -89,13 +94,13 @@ first-refuses table section (r ∷ rs) o p q =
     by-test (λ (t : Bool). Refuses table (cond t (refused r.number section r.place) (first_of section rs o))) r.holds
     p.0 (λ h. first-refuses table section rs o (p.1 h) (λ none. q (h, none)))
 
--- and a program that is told the first is told none, or one that is listed
-pub first-listed : (table : List Row) (section : ℕ) (rs : List Reason) → AllListed table section rs → (first_refusal section rs ≡ no_refusal) ⊎ Listed table (first_refusal section rs)
+-- and a check by the first is passed, or its refusal is listed
+pub first-listed : (table : List Row) (section : ℕ) (rs : List Reason) → AllListed table section rs → PassedOrListed table (first_refusal section rs)
 unfolding first_refusal AllListed
-first-listed table section [] p = inl refl
+first-listed table section [] p = passed
 first-listed table section (r ∷ rs) p =
-    by-test (λ (t : Bool). let x = cond t (refusal r.number section r.place) (first_refusal section rs) in (x ≡ no_refusal) ⊎ Listed table x) r.holds
-    (λ h. inr (p.0 h)) (λ h. first-listed table section rs (p.1 h))
+    by-test (λ (t : Bool). PassedOrListed table (cond t (Err (refusal r.number section r.place)) (first_refusal section rs))) r.holds
+    (λ h. listed _ (p.0 h)) (λ h. first-listed table section rs (p.1 h))
 
 -- a reason of no place, and others
 reason-listed : (table : List Row) (section number : ℕ) (holds : Bool) (rs : List Reason) → one_of (numbers_of table section) number ≡ true → has_place number ≡ false → AllListed table section rs → AllListed table section (reason number holds ∷ rs)
@@ -218,20 +223,20 @@ bad-within last fs s b = bad-at last (placed 0 5 fs) s b
 
 -- ---- the refusal that a reader is told: none, or one of the numbers
 
-pub head-told : (section : ℕ) (s : List ℕ) → let x = first_refusal section (head_reasons section s) in (x ≡ no_refusal) ⊎ Listed (row section head_numbers ∷ []) x
+pub head-told : (section : ℕ) (s : List ℕ) → PassedOrListed (row section head_numbers ∷ []) (first_refusal section (head_reasons section s))
 unfolding AllListed
 head-told section s =
     let table = row section head_numbers ∷ [] in
     first-listed table section (head_reasons section s) (head-listed table section s [] (rw (eq-eqb section section refl)) tt)
 
-pub opening-told : (section least : ℕ) (s : List ℕ) → let x = first_refusal section (opening_reasons section least s) in (x ≡ no_refusal) ⊎ Listed (row section opening_numbers ∷ []) x
+pub opening-told : (section least : ℕ) (s : List ℕ) → PassedOrListed (row section opening_numbers ∷ []) (first_refusal section (opening_reasons section least s))
 opening-told section least s =
     let table = row section opening_numbers ∷ [] in
     first-listed table section (opening_reasons section least s) (opening-listed table section least s (rw (eq-eqb section section refl)))
 
 -- with an own number that has no place, and a bad field of the section, which has passed its head
 pub fitting-told : (section bad own total : ℕ) (s : List ℕ) → has_place own ≡ false → bad ≤ length s → length s ≤ 65536
-    → let x = first_refusal section (fitting_reasons bad own total s) in (x ≡ no_refusal) ⊎ Listed (row section (8 ∷ 11 ∷ 21 ∷ own ∷ []) ∷ []) x
+    → PassedOrListed (row section (8 ∷ 11 ∷ 21 ∷ own ∷ []) ∷ []) (first_refusal section (fitting_reasons bad own total s))
 fitting-told section bad own total s p b small =
     let table = row section (8 ∷ 11 ∷ 21 ∷ own ∷ []) ∷ [] in
     let P : Bool → Type 0 = λ t. t ≡ true in
@@ -239,6 +244,21 @@ fitting-told section bad own total s p b small =
     (fitting-listed table section bad own total s (rw (eq-eqb section section refl)) (λ h. rw (eq-eqb section section refl))
     (rw (eq-eqb section section refl, eq-eqb own own refl) (either P (eqb own 0) refl (either P (eqb own 8) refl (either P (eqb own 11) refl (either P (eqb own 21) refl refl)))))
     p b small)
+
+-- by the total alone
+pub total-told : (section total : ℕ) (s : List ℕ) → length s ≤ 65536 → PassedOrListed (row section (11 ∷ 21 ∷ []) ∷ []) (first_refusal section (total_reasons total s))
+unfolding total_reasons AllListed
+total-told section total s small =
+    first-listed (row section (11 ∷ 21 ∷ []) ∷ []) section (total_reasons total s) (
+      (λ h. record { listed = rw (eq-eqb section section refl) refl; placed = record { given = some (length s); within = omega arith } }),
+      λ long. ((λ h. record { listed = rw (eq-eqb section section refl) refl; placed = record { given = some total; within = omega (arith, ltb-true total (length s) h) } }), λ whole. tt),
+    )
+
+-- by a field alone
+pub field-told : (section at : ℕ) (fine : Bool) → 1 ≤ at → at ≤ last_place → PassedOrListed (row section (8 ∷ []) ∷ []) (if_allowed section at fine)
+field-told section at true first last = passed
+field-told section at false first last =
+    listed _ (record { listed = rw (eq-eqb section section refl) refl; placed = record { given = rw (ne_eqb at 0 (λ e. omega arith)); within = last } })
 
 -- ---- a number that a table lacks
 

@@ -10,49 +10,46 @@ use lib.IntN.{nat_abs}
 use Rattle.octets.specs.Octets.{sign_of, all_ones}
 use Rattle.layout.specs.Fields.{Value, none, missing, is, which, plain, natural_in, means, unsigned, signed, or_missing}
 use Rattle.layout.specs.Missing.{in32, in_signed, unless_missing, signed_unless_missing}
-use Rattle.layout.specs.Outcomes.{Outcome, refused, read, refusal}
+use Rattle.layout.specs.Outcomes.{Outcome, refused, read, refusal, told}
 use Rattle.layout.specs.Time.{time_in}
 use Rattle.layout.specs.declared.Refusal.{Refusal}
 use Rattle.layout.specs.declared.Time.{Time}
-use Rattle.layout.specs.declared.U32OrMissing.{U32OrMissing}
-use Rattle.layout.specs.declared.U32OrMissing.TheVariants.{Missing as no32, Is as is32}
-use Rattle.layout.specs.declared.I32OrMissing.{I32OrMissing}
-use Rattle.layout.specs.declared.I32OrMissing.TheVariants.{Missing as no_signed, Is as is_signed}
+use Rattle.std.specs.Prelude.{ℤ, Option, Some, None, Result, Ok, Err}
 
 -- one that may be missing
-abbrev pub to32 : Value → U32OrMissing
-to32 none = no32
-to32 missing = no32
-to32 (is z) = is32 (nat_abs z)
-to32 (which n) = no32
+abbrev pub to32 : Value → Option ℕ
+to32 none = None
+to32 missing = None
+to32 (is z) = Some (nat_abs z)
+to32 (which n) = None
 
-pub back32 : (x : U32OrMissing) → to32 (in32 x) ≡ x
-back32 no32 = refl
-back32 (is32 n) = refl
+pub back32 : (x : Option ℕ) → to32 (in32 x) ≡ x
+back32 None = refl
+back32 (Some n) = refl
 
-abbrev pub to_signed : Value → I32OrMissing
-to_signed none = no_signed
-to_signed missing = no_signed
-to_signed (is z) = is_signed z
-to_signed (which n) = no_signed
+abbrev pub to_signed : Value → Option ℤ
+to_signed none = None
+to_signed missing = None
+to_signed (is z) = Some z
+to_signed (which n) = None
 
-pub back_signed : (x : I32OrMissing) → to_signed (in_signed x) ≡ x
-back_signed no_signed = refl
-back_signed (is_signed z) = refl
+pub back_signed : (x : Option ℤ) → to_signed (in_signed x) ≡ x
+back_signed None = refl
+back_signed (Some z) = refl
 
 -- ---- which number octets say that may be missing
 
 pub means32 : (width x : ℕ) → to32 (means (or_missing unsigned) width x) ≡ unless_missing width x
 means32 width x = by (eqb x (all_ones width))
   where
-    by : (t : Bool) → to32 (cond t missing (plain x)) ≡ cond t no32 (is32 x)
+    by : (t : Bool) → to32 (cond t missing (plain x)) ≡ cond t None (Some x)
     by true = refl
     by false = refl
 
 pub means_signed : (width x : ℕ) → to_signed (means (or_missing signed) width x) ≡ signed_unless_missing width x
 means_signed width x = by (eqb x (all_ones width))
   where
-    by : (t : Bool) → to_signed (cond t missing (is (sign_of width x))) ≡ cond t no_signed (is_signed (sign_of width x))
+    by : (t : Bool) → to_signed (cond t missing (is (sign_of width x))) ≡ cond t None (Some (sign_of width x))
     by true = refl
     by false = refl
 
@@ -62,10 +59,10 @@ means_signed width x = by (eqb x (all_ones width))
 pub told_back : {A B : Type 0} (tell : A → B) (back : B → A) → ((a : A) → back (tell a) ≡ a) → (a b : A) → tell a ≡ tell b → a ≡ b
 told_back tell back h a b e = sym (h a) ∙ ap back e ∙ h b
 
-pub same32 : (x y : U32OrMissing) → in32 x ≡ in32 y → x ≡ y
+pub same32 : (x y : Option ℕ) → in32 x ≡ in32 y → x ≡ y
 same32 = told_back in32 to32 back32
 
-pub same_signed : (x y : I32OrMissing) → in_signed x ≡ in_signed y → x ≡ y
+pub same_signed : (x y : Option ℤ) → in_signed x ≡ in_signed y → x ≡ y
 same_signed = told_back in_signed to_signed back_signed
 
 -- the five fields of a time, which stand from index `k` on among the values of a record
@@ -85,10 +82,14 @@ same_time = told_back time_in (λ vs. to_time vs 0) (λ x. refl)
 
 -- ---- the answer that an outcome is of: one that refuses, or one that reads the record that says these values
 
-abbrev pub untold : {A X : Type 0} → (Refusal → A) → (X → A) → (List Value → X) → Outcome → A
-untold is_refused is_read to_record (refused n s p) = is_refused (refusal n s p)
-untold is_refused is_read to_record (read vs) = is_read (to_record vs)
+abbrev pub untold : {A : Type 0} → (List Value → A) → Outcome → Result A Refusal
+untold to_record (refused n s p) = Err (refusal n s p)
+untold to_record (read vs) = Ok (to_record vs)
 
--- where each answer is had back from what it says, two answers that say one outcome are one answer
-pub one_answer : {A X : Type 0} (tell : A → Outcome) (is_refused : Refusal → A) (is_read : X → A) (to_record : List Value → X) → ((a : A) → untold is_refused is_read to_record (tell a) ≡ a) → (o : Outcome) (a b : A) → tell a ≡ o → tell b ≡ o → a ≡ b
-one_answer tell is_refused is_read to_record back o a b p q = told_back tell (untold is_refused is_read to_record) back a b (p ∙ sym q)
+pub back_told : {A : Type 0} (values : A → List Value) (to_record : List Value → A) → ((a : A) → to_record (values a) ≡ a) → (r : Result A Refusal) → untold to_record (told values r) ≡ r
+back_told values to_record back (Err x) = refl
+back_told values to_record back (Ok a) = ap Ok (back a)
+
+-- where each record is had back from its values, two answers that say one outcome are one answer
+pub one_answer : {A : Type 0} (values : A → List Value) (to_record : List Value → A) → ((a : A) → to_record (values a) ≡ a) → (o : Outcome) (a b : Result A Refusal) → told values a ≡ o → told values b ≡ o → a ≡ b
+one_answer values to_record back o a b p q = told_back (told values) (untold to_record) (back_told values to_record back) a b (p ∙ sym q)

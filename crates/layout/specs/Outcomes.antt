@@ -1,8 +1,8 @@
 -- What a reader answers: a refusal, by the first reason that holds, or what was read.
 -- Assumes nothing.
-use Rattle.std.specs.Prelude.{ℕ, ◌+◌, List, [], ◌∷◌, ◌++◌, Bool, not, cond, length, ltb, eqb}
+use Rattle.std.specs.Prelude.{ℕ, ◌+◌, List, [], ◌∷◌, ◌++◌, Bool, not, cond, length, ltb, eqb, Result, Ok, Err}
 use Rattle.octets.specs.Octets.{be_at}
-use Rattle.layout.specs.Fields.{Value}
+use Rattle.layout.specs.Fields.{Value, FieldAt, allowed, raw_at}
 use Rattle.layout.specs.declared.Refusal.{Refusal}
 
 -- a refusal's number, section and place, or the values of a record
@@ -14,18 +14,28 @@ pub data Outcome : Type 0 where
 abbrev pub refusal : ℕ → ℕ → ℕ → Refusal
 refusal number section place = record { number = number; section = section; place = place }
 
--- what stands for none
-abbrev pub no_refusal : Refusal
-no_refusal = refusal 0 0 0
-
--- the refusal that an outcome is; of none, zeros
-abbrev pub refusal_of : Outcome → Refusal
-refusal_of (refused number section place) = refusal number section place
-refusal_of (read vs) = no_refusal
-
 -- what a program's refusal says
 abbrev pub refused_by : Refusal → Outcome
 refused_by x = refused x.number x.section x.place
+
+-- what a program's answer says: a refusal, or the values of what was read
+abbrev pub told : {A : Type 0} → (A → List Value) → Result A Refusal → Outcome
+told values (Err x) = refused_by x
+told values (Ok a) = read (values a)
+
+-- a program's check: passed, or refused
+abbrev pub Check : Type 0
+Check = Result (Unit {0}) Refusal
+
+-- the check of an outcome: passed where it is read
+abbrev pub check_of : Outcome → Check
+check_of (refused number section place) = Err (refusal number section place)
+check_of (read vs) = Ok tt
+
+-- one check and then another: a refusal is handed on
+unfoldable pub and_check : Check → Check → Check
+and_check (Err x) c = Err x
+and_check (Ok u) c = c
 
 -- one answer and then another: a refusal is handed on
 unfoldable pub and_then : Outcome → Outcome → Outcome
@@ -56,10 +66,19 @@ unfoldable pub first_of : ℕ → List Reason → Outcome → Outcome
 first_of section [] o = o
 first_of section (r ∷ rs) o = cond r.holds (refused r.number section r.place) (first_of section rs o)
 
--- the same as a program's refusal, and zeros if none holds
-unfoldable pub first_refusal : ℕ → List Reason → Refusal
-first_refusal section [] = no_refusal
-first_refusal section (r ∷ rs) = cond r.holds (refusal r.number section r.place) (first_refusal section rs)
+-- the same as a program's check, which is passed if none holds
+unfoldable pub first_refusal : ℕ → List Reason → Check
+first_refusal section [] = Ok tt
+first_refusal section (r ∷ rs) = cond r.holds (Err (refusal r.number section r.place)) (first_refusal section rs)
+
+-- a field's number is allowed, or its first octet is the place of 8
+abbrev pub if_allowed : ℕ → ℕ → Bool → Check
+if_allowed section at fine = cond fine (Ok tt) (Err (refusal 8 section at))
+
+-- each field's is, or the lowest that is not has the place
+unfoldable pub all_allowed : ℕ → List FieldAt → List ℕ → Check
+all_allowed section [] s = Ok tt
+all_allowed section (p ∷ ps) s = and_check (if_allowed section p.at (allowed p.field (raw_at p s))) (all_allowed section ps s)
 
 -- ---- the reasons that the sections share
 

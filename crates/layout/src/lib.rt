@@ -1,18 +1,19 @@
-// What the readers of sections share: refusals and their first four numbers, places of fields out of their range, numbers
-// that may be missing, the time that stands in two sections, and where a part of one stands. Octets are counted from 1; `end` is
-// the octet after which a block of fields stands. Every function takes every input.
+// What the readers of sections share: refusals, the checks of a section and of its fields, numbers that may be missing, the time that stands
+// in two sections, and where a part of one stands. Octets are counted from 1; `end` is the octet after which a block of fields stands. Every
+// function takes every input.
 #![tactic(auto)]
 
-ghost use Rattle.std.specs.Prelude.{◌≡◌, cond};
-ghost use Rattle.octets.specs.Octets.{be_at};
-ghost use Rattle.layout.specs.Fields.{between, not_ones, not_zero, means, unsigned, signed, or_missing, after, values_of, lowest_bad};
-ghost use Rattle.layout.specs.Outcomes.{refusal, no_refusal, head_reasons, opening_reasons, fitting_reasons, total_reasons, first_refusal};
+ghost use Rattle.std.specs.Prelude.{◌≡◌, ℕ, refl};
+ghost use Rattle.octets.specs.Octets.{be_at, sign_of, all_ones};
+ghost use Rattle.layout.specs.Fields.{between, not_ones, not_zero, means, unsigned, signed, or_missing, after, values_of};
+ghost use Rattle.layout.specs.Outcomes.{refusal, head_reasons, opening_reasons, total_reasons, first_refusal, if_allowed, all_allowed};
 ghost use Rattle.layout.specs.Missing.{in32, in_signed};
 ghost use Rattle.layout.specs.Time.{time, time_in};
 ghost use Rattle.layout.specs.Spans.{span_after};
 
-// Why something was refused: document 01's number, the section asked for, and the place.
-#[derive(Clone, Copy)]
+// Why something was refused: document 01's number, the section asked for, and the place. The number stays a number: document 01 has no names
+// for its refusals, and what is told of one to C, in texts and in the tables of specs/Refusals.antt is the number.
+#[derive(Clone, Copy, PartialEq, Eq)]
 pub struct Refusal {
     pub number: u8,
     pub section: u8,
@@ -20,17 +21,6 @@ pub struct Refusal {
 }
 
 impl Refusal {
-    // What stands for none: zeros.
-    pub fn none() -> Self
-        ensures { result ≡ no_refusal }
-    {
-        Self {
-            number: 0,
-            section: 0,
-            place: 0,
-        }
-    }
-
     // One of no place.
     pub fn of(number: u8, section: u8) -> Self
         ensures { result ≡ refusal number section 0 }
@@ -41,214 +31,202 @@ impl Refusal {
             place: 0,
         }
     }
+
+    pub fn at(number: u8, section: u8, place: usize) -> Self
+        ensures { result ≡ refusal number section place }
+    {
+        Self {
+            number,
+            section,
+            place,
+        }
+    }
 }
 
-// ---- the first refusal of a lent section that is met, and none if none is
+// ---- the checks of a lent section: each refuses it by the first of its reasons that holds
 
 // 1 to 4, which every section has.
 #[tactic(auto, unfolding(crate::specs::Outcomes::first_refusal))]
-pub fn head_refusal(s: &[u8], section: u8) -> Refusal
+pub fn check_head(s: &[u8], section: u8) -> Result<(), Refusal>
     ensures { result ≡ first_refusal section (head_reasons section s.now) }
 {
     if s.len() < 5 {
-        return Refusal::of(1, section);
+        return Err(Refusal::of(1, section));
     }
     if 65536 < s.len() {
-        return Refusal::of(2, section);
+        return Err(Refusal::of(2, section));
     }
     if octets::u32_at(s, 1) as usize != s.len() {
-        return Refusal::of(3, section);
+        return Err(Refusal::of(3, section));
     }
     if octets::u8_at(s, 5) != section {
-        return Refusal::of(4, section);
+        return Err(Refusal::of(4, section));
     }
-    Refusal::none()
+    Ok(())
 }
 
 // 1 to 4, and 5 for a section of fewer than `least` octets.
-pub fn opening_refusal(s: &[u8], section: u8, least: usize) -> Refusal
+#[tactic(auto, using(crate::proofs::Outcomes::opening_by_head), unfolding(crate::specs::Outcomes::and_check))]
+pub fn check_opening(s: &[u8], section: u8, least: usize) -> Result<(), Refusal>
     ensures { result ≡ first_refusal section (opening_reasons section least s.now) }
 {
-    let head = head_refusal(s, section);
-    if head.number != 0 {
-        return head;
-    }
+    check_head(s, section)?;
     if s.len() < least {
-        return Refusal::of(5, section);
+        return Err(Refusal::of(5, section));
     }
-    Refusal::none()
-}
-
-// Once the section has the octets of its smallest total: 8 at the place `bad`, the section's own number, and the total's; 0 says that no
-// field is out of its range, and that the own number is not met. A reader tests 7 itself, so that it looks at fields only where they are.
-#[tactic(auto, unfolding(crate::specs::Outcomes::first_refusal, crate::specs::Outcomes::fitting_reasons))]
-pub fn fitting_refusal(s: &[u8], section: u8, bad: usize, own: u8, total: usize) -> Refusal
-    ensures { result ≡ first_refusal section (fitting_reasons bad own total s.now) }
-{
-    if bad != 0 {
-        return Refusal {
-            number: 8,
-            section,
-            place: bad,
-        };
-    }
-    if own != 0 {
-        return Refusal::of(own, section);
-    }
-    total_refusal(s, section, total)
+    Ok(())
 }
 
 // 11: the section is shorter than its total, and the place is the first octet that is not there. 21: it is longer, and the place is the
 // first octet beyond. Neither sum can pass a usize, since the other side is greater. Whether it has its total is tested first: nearly
 // every section that comes this far has it.
 #[tactic(auto, unfolding(crate::specs::Outcomes::first_refusal, crate::specs::Outcomes::total_reasons))]
-fn total_refusal(s: &[u8], section: u8, total: usize) -> Refusal
+pub fn check_total(s: &[u8], section: u8, total: usize) -> Result<(), Refusal>
     ensures { result ≡ first_refusal section (total_reasons total s.now) }
 {
     if s.len() == total {
-        return Refusal::none();
+        return Ok(());
     }
     if s.len() < total {
-        return Refusal {
-            number: 11,
-            section,
-            place: s.len() + 1,
-        };
+        return Err(Refusal::at(11, section, s.len() + 1));
     }
-    Refusal {
-        number: 21,
-        section,
-        place: total + 1,
+    Err(Refusal::at(21, section, total + 1))
+}
+
+// ---- numbers of one, two and four octets
+
+// A number of so many octets; all ones may say that it is missing.
+pub trait Width {
+    ghost octets: { ℕ };
+
+    ghost ONES: { ℕ };
+
+    const ONES: u32;
+
+    // The one from octet `at` on.
+    fn at(s: &[u8], at: usize) -> u32
+        ensures { result ≡ be_at s.now at octets };
+
+    // The same by sign and magnitude.
+    fn signed_at(s: &[u8], at: usize) -> i32
+        ensures { result ≡ sign_of octets (be_at s.now at octets) };
+
+    ghost ones: { ONES ≡ all_ones octets };
+}
+
+impl Width for u8 {
+    ghost octets = { 1 };
+
+    ghost ONES = { 0xff };
+
+    const ONES: u32 = 0xff;
+
+    ghost ones = { refl };
+
+    fn at(s: &[u8], at: usize) -> u32 {
+        octets::u8_at(s, at) as u32
+    }
+
+    #[tactic(auto, using(octets::proofs::Signs::kept32))]
+    fn signed_at(s: &[u8], at: usize) -> i32 {
+        octets::signed8(octets::u8_at(s, at))
     }
 }
 
-// ---- the lowest field out of its range: each answers `at` if its field is, and else `later`, the place that the fields
-// behind it have
+impl Width for u16 {
+    ghost octets = { 2 };
+
+    ghost ONES = { 0xffff };
+
+    const ONES: u32 = 0xffff;
+
+    ghost ones = { refl };
+
+    fn at(s: &[u8], at: usize) -> u32 {
+        octets::u16_at(s, at) as u32
+    }
+
+    #[tactic(auto, using(octets::proofs::Signs::kept32))]
+    fn signed_at(s: &[u8], at: usize) -> i32 {
+        octets::signed16_at(s, at)
+    }
+}
+
+impl Width for u32 {
+    ghost octets = { 4 };
+
+    ghost ONES = { 0xffff_ffff };
+
+    const ONES: u32 = 0xffff_ffff;
+
+    ghost ones = { refl };
+
+    fn at(s: &[u8], at: usize) -> u32 {
+        octets::u32_at(s, at)
+    }
+
+    #[tactic(auto, using(octets::proofs::Signs::kept32))]
+    fn signed_at(s: &[u8], at: usize) -> i32 {
+        octets::signed32_at(s, at)
+    }
+}
+
+// A number that may be missing.
+pub fn or_missing<T: Width>(s: &[u8], at: usize) -> Option<u32>
+    ensures { in32 result ≡ means (or_missing unsigned) T.octets (be_at s.now at T.octets) }
+{
+    let x = T::at(s, at);
+    if x == T::ONES { None } else { Some(x) }
+}
+
+// The same by sign and magnitude.
+pub fn signed_or_missing<T: Width>(s: &[u8], at: usize) -> Option<i32>
+    ensures { in_signed result ≡ means (or_missing signed) T.octets (be_at s.now at T.octets) }
+{
+    if T::at(s, at) == T::ONES {
+        None
+    } else {
+        Some(T::signed_at(s, at))
+    }
+}
+
+// ---- the checks of a field: 8 at its first octet where its number is out of its range
 
 // An octet from `low` to `high`.
 #[tactic(auto, unfolding(crate::specs::Fields::between))]
-pub fn octet_within(s: &[u8], at: usize, low: u8, high: u8, later: usize) -> usize
-    ensures { result ≡ cond (between low high (be_at s.now at 1)) later at }
+pub fn check_within(s: &[u8], section: u8, at: usize, low: u8, high: u8) -> Result<(), Refusal>
+    ensures { result ≡ if_allowed section at (between low high (be_at s.now at 1)) }
 {
-    let x = octets::u8_at(s, at);
-    if x < low {
-        return at;
-    }
-    if high < x {
-        return at;
-    }
-    later
+    check(section, at, (low..=high).contains(&octets::u8_at(s, at)))
 }
 
-// Two octets that are not all ones.
-pub fn present16(s: &[u8], at: usize, later: usize) -> usize
-    ensures { result ≡ cond (not_ones 2 (be_at s.now at 2)) later at }
+// A number that is not missing.
+pub fn check_present<T: Width>(s: &[u8], section: u8, at: usize) -> Result<(), Refusal>
+    ensures { result ≡ if_allowed section at (not_ones T.octets (be_at s.now at T.octets)) }
 {
-    if octets::u16_at(s, at) == 0xffff {
-        at
+    check(section, at, T::at(s, at) != T::ONES)
+}
+
+// A number that is not 0.
+pub fn check_nonzero<T: Width>(s: &[u8], section: u8, at: usize) -> Result<(), Refusal>
+    ensures { result ≡ if_allowed section at (not_zero (be_at s.now at T.octets)) }
+{
+    check(section, at, T::at(s, at) != 0)
+}
+
+fn check(section: u8, at: usize, allowed: bool) -> Result<(), Refusal>
+    ensures { result ≡ if_allowed section at allowed }
+{
+    if allowed {
+        Ok(())
     } else {
-        later
-    }
-}
-
-// Four octets that are not all ones.
-pub fn present32(s: &[u8], at: usize, later: usize) -> usize
-    ensures { result ≡ cond (not_ones 4 (be_at s.now at 4)) later at }
-{
-    if octets::u32_at(s, at) == 0xffff_ffff {
-        at
-    } else {
-        later
-    }
-}
-
-// Four octets that are not all zero.
-pub fn nonzero32(s: &[u8], at: usize, later: usize) -> usize
-    ensures { result ≡ cond (not_zero (be_at s.now at 4)) later at }
-{
-    if octets::u32_at(s, at) == 0 {
-        at
-    } else {
-        later
-    }
-}
-
-// ---- numbers that may be missing
-
-// A number of whatever octet count.
-#[derive(Clone, Copy)]
-pub enum U32OrMissing {
-    Missing,
-    Is(u32),
-}
-
-// A number by sign and magnitude, of whatever octet count.
-#[derive(Clone, Copy)]
-pub enum I32OrMissing {
-    Missing,
-    Is(i32),
-}
-
-pub fn u8_or_missing(s: &[u8], at: usize) -> U32OrMissing
-    ensures { in32 result ≡ means (or_missing unsigned) 1 (be_at s.now at 1) }
-{
-    let x = octets::u8_at(s, at);
-    if x == 0xff {
-        U32OrMissing::Missing
-    } else {
-        U32OrMissing::Is(x as u32)
-    }
-}
-
-pub fn u16_or_missing(s: &[u8], at: usize) -> U32OrMissing
-    ensures { in32 result ≡ means (or_missing unsigned) 2 (be_at s.now at 2) }
-{
-    let x = octets::u16_at(s, at);
-    if x == 0xffff {
-        U32OrMissing::Missing
-    } else {
-        U32OrMissing::Is(x as u32)
-    }
-}
-
-pub fn u32_or_missing(s: &[u8], at: usize) -> U32OrMissing
-    ensures { in32 result ≡ means (or_missing unsigned) 4 (be_at s.now at 4) }
-{
-    let x = octets::u32_at(s, at);
-    if x == 0xffff_ffff {
-        U32OrMissing::Missing
-    } else {
-        U32OrMissing::Is(x)
-    }
-}
-
-#[tactic(auto, using(octets::proofs::Signs::kept32))]
-pub fn signed8_or_missing(s: &[u8], at: usize) -> I32OrMissing
-    ensures { in_signed result ≡ means (or_missing signed) 1 (be_at s.now at 1) }
-{
-    let x = octets::u8_at(s, at);
-    if x == 0xff {
-        I32OrMissing::Missing
-    } else {
-        I32OrMissing::Is(octets::signed8(x))
-    }
-}
-
-#[tactic(auto, using(octets::proofs::Signs::kept32))]
-pub fn signed32_or_missing(s: &[u8], at: usize) -> I32OrMissing
-    ensures { in_signed result ≡ means (or_missing signed) 4 (be_at s.now at 4) }
-{
-    let x = octets::u32_at(s, at);
-    if x == 0xffff_ffff {
-        I32OrMissing::Missing
-    } else {
-        I32OrMissing::Is(octets::signed32(x))
+        Err(Refusal::at(8, section, at))
     }
 }
 
 // ---- the time that stands in sections 1 and 4, behind its year
 
-#[derive(Clone, Copy)]
+#[derive(Clone, Copy, PartialEq, Eq)]
 pub struct Time {
     pub month: u8,
     pub day: u8,
@@ -257,6 +235,7 @@ pub struct Time {
     pub second: u8,
 }
 
+#[tactic(auto, unfolding(crate::specs::Fields::values_of, crate::specs::Fields::placed, crate::specs::Time::time, crate::specs::Time::time_in))]
 pub fn read_time(s: &[u8], end: u32) -> Time
     ensures { time_in result ≡ values_of (after end time) s.now }
 {
@@ -270,22 +249,22 @@ pub fn read_time(s: &[u8], end: u32) -> Time
     }
 }
 
-// From the last of the five to the first, so that the lowest place stays.
-pub fn bad_time(s: &[u8], end: u32, later: usize) -> usize
-    ensures { result ≡ lowest_bad (after end time) s.now later }
+#[tactic(auto, unfolding(crate::specs::Outcomes::all_allowed, crate::specs::Outcomes::and_check, crate::specs::Fields::placed, crate::specs::Time::time))]
+pub fn check_time(s: &[u8], section: u8, end: u32) -> Result<(), Refusal>
+    ensures { result ≡ all_allowed section (after end time) s.now }
 {
     let before = end as usize;
-    let second = octet_within(s, before + 5, 0, 59, later);
-    let minute = octet_within(s, before + 4, 0, 59, second);
-    let hour = octet_within(s, before + 3, 0, 23, minute);
-    let day = octet_within(s, before + 2, 1, 31, hour);
-    octet_within(s, before + 1, 1, 12, day)
+    check_within(s, section, before + 1, 1, 12)?;
+    check_within(s, section, before + 2, 1, 31)?;
+    check_within(s, section, before + 3, 0, 23)?;
+    check_within(s, section, before + 4, 0, 59)?;
+    check_within(s, section, before + 5, 0, 59)
 }
 
 // ---- the parts that a caller is shown
 
 // Where a part stands: how many octets are before it, and how many it has. One without octets stands nowhere: 0 and 0.
-#[derive(Clone, Copy)]
+#[derive(Clone, Copy, PartialEq, Eq)]
 pub struct Span {
     pub before: usize,
     pub length: usize,
