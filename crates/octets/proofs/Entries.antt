@@ -2,9 +2,18 @@
 -- Assumes nothing.
 use mathlib.Core.Path.{◌≡◌}
 use lib.ListN.{take, drop}
-use Rattle.octets.specs.Octets.{be_at, sign_of, real_year}
+use mathlib.Core.List.{not-mem-nil}
+use native.Mathlib.Omega.{arith}
+use Prim.Native.Nat.{ℕ, ◌<◌, ◌^◌}
+use mir.Syntax.{w64}
+use mir.Val.{Fits}
+use Rattle.octets.specs.Octets.{part, be_at, sign_of, real_year}
 use Rattle.entry.specs.Entry.{Entry}
 use Rattle.octets.proofs as code
+
+-- of every count that an array can have
+pub part-at : (n : ℕ) (fits : Fits w64 n) → n < 2 ^ 63 → Entry (code.part_at.Reads.Asked n fits) (code.part_at.Reads.Learnt n fits) code.part_at.Statement.statement (λ given r later. r ≡ part given.0.now given.1.0 n)
+part-at n fits small = record { takes = λ lent given. ((λ a there. absurd (not-mem-nil there)), omega (arith, small)); ends = code.part_at.Met.met; tells = λ lent given r later e. e }
 
 pub u8-at : Entry code.u8_at.Reads.Asked code.u8_at.Reads.Learnt code.u8_at.Statement.statement (λ given r later. r ≡ be_at given.0.now given.1.0 1)
 u8-at = record { takes = λ lent given. tt; ends = code.u8_at.Met.met; tells = λ lent given r later e. e }

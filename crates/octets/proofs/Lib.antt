@@ -4,3 +4,4 @@ pub mod Signs
 pub mod Free
 pub mod Entries
 pub mod Lists
+pub mod Parts

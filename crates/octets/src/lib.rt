@@ -3,50 +3,53 @@
 #![tactic(auto)]
 
 ghost use Rattle.std.specs.Prelude.{◌≡◌, cond, ◌-◌, ◌*◌, ◌^◌, ◌<◌, ◌≤◌, ltb, pos, neg_ℤ, take, drop};
-ghost use Rattle.octets.specs.Octets.{be_at, sign_of, real_year};
+ghost use Rattle.octets.specs.Octets.{part, be_at, sign_of, real_year};
+
+// The N octets from octet `at` on, of which those that are not there are 0.
+#[tactic(auto, using(crate::proofs::Parts::more), unfolding(crate::specs::Octets::part))]
+pub fn part_at<const N: usize>(s: &[u8], at: usize) -> [u8; N]
+    ensures { result ≡ part s.now at N }
+{
+    let mut part = [0; N];
+    for i in 0..N {
+        part[i] = u8_at(s, at.saturating_add(i));
+    }
+    part
+}
 
 // The number in octet `at`.
+#[tactic(auto, using(crate::proofs::Parts::octet_number))]
 pub fn u8_at(s: &[u8], at: usize) -> u8
     ensures { result ≡ be_at s.now at 1 }
 {
     if at == 0 {
         return 0;
     }
-    if s.len() < at {
-        return 0;
-    }
-    s[at - 1]
+    s.get(at - 1).copied().unwrap_or(0)
 }
 
 // The number in the two octets from octet `at` on.
+#[tactic(auto, using(crate::proofs::Parts::of_two))]
 pub fn u16_at(s: &[u8], at: usize) -> u16
     ensures { result ≡ be_at s.now at 2 }
 {
-    // Past the end all is 0; before it the next octet's number fits, since a slice has fewer than 2^63 octets.
-    if s.len() < at {
-        return 0;
-    }
-    (u8_at(s, at) as u16) * 256 + (u8_at(s, at + 1) as u16)
+    u16::from_be_bytes(part_at(s, at))
 }
 
 // The number in the four octets from octet `at` on.
+#[tactic(auto, using(crate::proofs::Parts::of_four))]
 pub fn u32_at(s: &[u8], at: usize) -> u32
     ensures { result ≡ be_at s.now at 4 }
 {
-    if s.len() < at {
-        return 0;
-    }
-    (u16_at(s, at) as u32) * 0x1_0000 + (u16_at(s, at + 2) as u32)
+    u32::from_be_bytes(part_at(s, at))
 }
 
 // The number in the eight octets from octet `at` on.
+#[tactic(auto, using(crate::proofs::Parts::of_eight))]
 pub fn u64_at(s: &[u8], at: usize) -> u64
     ensures { result ≡ be_at s.now at 8 }
 {
-    if s.len() < at {
-        return 0;
-    }
-    (u32_at(s, at) as u64) * 0x1_0000_0000 + (u32_at(s, at + 4) as u64)
+    u64::from_be_bytes(part_at(s, at))
 }
 
 // What a number of one octet says by sign and magnitude.

@@ -1,0 +1,8 @@
+-- `part_at`: after i turns the first i octets are those from octet `at` on.
+-- Assumes nothing.
+use Rattle.std.proofs.Common.{◌≡◌, take, length}
+use Rattle.octets.specs.Octets.{part}
+use Rattle.octets.proofs.part_at.Given as goal
+
+abbrev pub invariant-loop-i : goal.invariant-loop-i
+invariant-loop-i g l = (length l.part ≡ g.row.N) × (take l.i l.part ≡ part l.s l.at l.i)
