@@ -20,7 +20,7 @@ use Rattle.identification.specs.declared.Template.{Template}
 use Rattle.identification.specs.declared.Template.TheVariants.{None as no_template, Calendar, Offset, CalendarAndOffset}
 use Rattle.identification.proofs.AcceptedExactlyWhen.{follows-accepted}
 use Rattle.message.specs.declared.Sections.{Sections}
-use Rattle.message.specs.declared.Cut.{Cut}
+use Rattle.message.specs.Walk.{Cut}
 use Rattle.message.specs.Walk.{no_sections}
 use Rattle.message.specs.Grammar.{Group, FirstComplete, Five, fields_of, AllFollow, FollowsMessage}
 use Rattle.message.specs.Messages.{shown_in, field_of, read_message}

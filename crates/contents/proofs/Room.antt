@@ -15,7 +15,7 @@ use Rattle.identification.specs.Section1.{outcome₁}
 use Rattle.message.specs.Grammar.{Five}
 use Rattle.message.specs.Messages.{shown_in, field_of, read_message}
 use Rattle.message.specs.declared.Sections.{Sections}
-use Rattle.message.specs.declared.Cut.{Cut}
+use Rattle.message.specs.Walk.{Cut}
 use Rattle.message.proofs.RefusalNumbers.{few-fields}
 use Rattle.text.specs.Text.{refused_text}
 use Rattle.text.proofs.Decimal.{decimal-most}

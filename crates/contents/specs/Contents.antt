@@ -12,7 +12,7 @@ use Rattle.message.specs.Grammar.{Five, Parts, fields_in}
 use Rattle.message.specs.Messages.{shown_in, field_of, read_message}
 use Rattle.message.specs.Places.{places_in}
 use Rattle.message.specs.declared.Sections.{Sections}
-use Rattle.message.specs.declared.Cut.{Cut}
+use Rattle.message.specs.Walk.{Cut}
 use Rattle.text.specs.Text.{ascii, spaced, ended, time_text, refused_text}
 
 -- ---- the line of a field

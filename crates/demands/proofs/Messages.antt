@@ -39,7 +39,7 @@ use Rattle.layout.specs.declared.Span.{Span}
 use Rattle.layout.specs.declared.Refusal.{Refusal}
 use Rattle.layout.proofs.Refusals.{never-listed}
 use Rattle.field.specs.Accepted.{FollowsField}
-use Rattle.message.specs.declared.Cut.{Cut}
+use Rattle.message.specs.Walk.{Cut}
 use Rattle.message.specs.Grammar.{Group, Five, no_five, Follows, three_after, Parts, behind_zero, fields_in, IsFrame, FollowsMessage}
 use Rattle.message.specs.Messages.{shown_in, field_of, section_in, read_message, Accepted}
 use Rattle.message.specs.Places.{places_in, fields_found, FieldWithin}

@@ -4,14 +4,14 @@ use Prim.Native.Nat.{ℕ}
 use mathlib.Core.Path.{◌≡◌, refl, ap, ◌∙◌}
 use mathlib.Core.List.{List}
 use Rattle.layout.specs.Fields.{Value}
-use Rattle.layout.specs.Outcomes.{Outcome, refused, read, and_then, refusal_of}
+use Rattle.layout.specs.Outcomes.{Outcome, refused, read, and_then, check_of}
 use Rattle.identification.specs.Section1.{outcome₁}
 use Rattle.grid.specs.Blocks.{values_in}
 use Rattle.grid.specs.Section3.{outcome₃}
 use Rattle.grid.specs.declared.blocks.Grid.{Grid}
 use Rattle.product.specs.Section4.{outcome₄}
 use Rattle.packing.specs.Section5.{outcome₅}
-use Rattle.field.specs.Field.{FieldOutcome, read_field, onward, packed_outcome, points_at, field_outcome, packing_outcome, later_outcome, field_refusal}
+use Rattle.field.specs.Field.{FieldOutcome, read_field, onward, packed_outcome, points_at, field_outcome, packing_outcome, later_outcome, field_check}
 use Rattle.field.proofs.Points.{points-are}
 
 -- ---- sections 5 and 7
@@ -35,21 +35,21 @@ rest-onward s1 s3 s4 s5 s7 one x four first third fourth =
 
 -- ---- the refusal
 
-then-refusal : (o : Outcome) (next : List Value → FieldOutcome) (later : Outcome) → ((vs : List Value) → field_refusal (next vs) ≡ refusal_of later) → field_refusal (onward o next) ≡ refusal_of (and_then o later)
+then-refusal : (o : Outcome) (next : List Value → FieldOutcome) (later : Outcome) → ((vs : List Value) → field_check (next vs) ≡ check_of later) → field_check (onward o next) ≡ check_of (and_then o later)
 unfolding onward and_then
 then-refusal (refused number section place) next later h = refl
 then-refusal (read vs) next later h = h vs
 
-last-refusal : (o : Outcome) (next : List Value → FieldOutcome) → ((vs : List Value) → field_refusal (next vs) ≡ refusal_of (read vs)) → field_refusal (onward o next) ≡ refusal_of o
+last-refusal : (o : Outcome) (next : List Value → FieldOutcome) → ((vs : List Value) → field_check (next vs) ≡ check_of (read vs)) → field_check (onward o next) ≡ check_of o
 unfolding onward
 last-refusal (refused number section place) next h = refl
 last-refusal (read vs) next h = h vs
 
 -- the first that refuses: section 1, section 3, or those behind
-pub first-refusal : (s1 s3 s4 s5 s7 : List ℕ) → field_refusal (field_outcome s1 s3 s4 s5 s7) ≡ refusal_of (and_then (outcome₁ s1) (and_then (outcome₃ s3) (later_outcome (points_at s3) s4 s5 s7)))
+pub first-refusal : (s1 s3 s4 s5 s7 : List ℕ) → field_check (field_outcome s1 s3 s4 s5 s7) ≡ check_of (and_then (outcome₁ s1) (and_then (outcome₃ s3) (later_outcome (points_at s3) s4 s5 s7)))
 unfolding field_outcome later_outcome
 first-refusal s1 s3 s4 s5 s7 =
     then-refusal (outcome₁ s1) _ _
     (λ one. then-refusal (outcome₃ s3) _ _
     (λ three. then-refusal (outcome₄ s4) _ _
-    (λ four. ap field_refusal (packed-onward (points_at s3) one three four s5 s7) ∙ last-refusal (packing_outcome (points_at s3) s5 s7) _ (λ five. refl))))
+    (λ four. ap field_check (packed-onward (points_at s3) one three four s5 s7) ∙ last-refusal (packing_outcome (points_at s3) s5 s7) _ (λ five. refl))))

@@ -27,7 +27,7 @@ use Rattle.packing.specs.Refused.{table₅, table₇}
 use Rattle.packing.proofs.RefusalNumbers.{refuses₅, refuses₇}
 use Rattle.field.specs.Field.{FieldOutcome, refused_field, read_field, onward, packed_outcome, points_at, field_outcome, told}
 use Rattle.field.specs.Refused.{field_table}
-use Rattle.field.specs.declared.Answer.TheVariants.{Refused}
+use Rattle.std.specs.Prelude.{Err}
 
 -- ---- what is said of a refusal's number, section and place, of an outcome that is one
 
@@ -77,6 +77,6 @@ refuses-field s1 s3 s4 s5 s7 =
     (record { listed = refl; placed = record { given = refl; within = omega arith } })
     (by-table table₇ (outcome₇ (values_at s5) (bits_at s5) s7) refl (refuses₇ (values_at s5) (bits_at s5) s7))
 
-pub field-refuses : (s1 s3 s4 s5 s7 : List ℕ) (x : Refusal) → told (Refused x) ≡ field_outcome s1 s3 s4 s5 s7 → Listed field_table x
+pub field-refuses : (s1 s3 s4 s5 s7 : List ℕ) (x : Refusal) → told (Err x) ≡ field_outcome s1 s3 s4 s5 s7 → Listed field_table x
 unfolding told
 field-refuses s1 s3 s4 s5 s7 x e = subst (λ (o : FieldOutcome). RefusesField o) (sym e) (refuses-field s1 s3 s4 s5 s7)

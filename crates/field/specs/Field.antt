@@ -1,9 +1,9 @@
 -- A whole field: sections 1, 3, 4, 5 (with 14) and 7, by their own outcomes. The first refusal is the field's.
 -- Assumes nothing.
-use Rattle.std.specs.Prelude.{ℕ, List, [], ◌∷◌, not, eqb}
+use Rattle.std.specs.Prelude.{ℕ, List, [], ◌∷◌, not, eqb, Result, Ok, Err}
 use Rattle.octets.specs.Octets.{be_at}
 use Rattle.layout.specs.Fields.{Value}
-use Rattle.layout.specs.Outcomes.{Outcome, refused, read, and_then, reason, first_of, refusal, no_refusal}
+use Rattle.layout.specs.Outcomes.{Outcome, refused, read, and_then, reason, first_of, refusal, Check}
 use Rattle.identification.specs.Section1.{outcome₁, values_in as values_in₁}
 use Rattle.grid.specs.Blocks.{values_in as values_in₃}
 use Rattle.grid.specs.Section3.{outcome₃}
@@ -12,8 +12,7 @@ use Rattle.product.specs.Section4.{outcome₄}
 use Rattle.packing.specs.Section5.{outcome₅, values_at, bits_at, values_in₅}
 use Rattle.packing.specs.Section7.{outcome₇}
 use Rattle.layout.specs.declared.Refusal.{Refusal}
-use Rattle.field.specs.declared.Answer.{Answer}
-use Rattle.field.specs.declared.Answer.TheVariants.{Read, Refused}
+use Rattle.field.specs.declared.WholeField.{WholeField}
 
 -- a refusal's number, section and place, or the values of the four records
 pub data FieldOutcome : Type 0 where
@@ -56,19 +55,14 @@ packing_outcome points s5 s7 =
 unfoldable pub later_outcome : ℕ → List ℕ → List ℕ → List ℕ → Outcome
 later_outcome points s4 s5 s7 = and_then (outcome₄ s4) (packing_outcome points s5 s7)
 
--- the refusal that a field's outcome is; of none, zeros
-abbrev pub field_refusal : FieldOutcome → Refusal
-field_refusal (refused_field number section place) = refusal number section place
-field_refusal (read_field one three four five) = no_refusal
+-- the check of a field's outcome: passed where it is read
+abbrev pub field_check : FieldOutcome → Check
+field_check (refused_field number section place) = Err (refusal number section place)
+field_check (read_field one three four five) = Ok tt
 
 -- ---- what a program's answer says
 
-unfoldable pub told : Answer → FieldOutcome
-told (Read x) =
+unfoldable pub told : Result WholeField Refusal → FieldOutcome
+told (Ok x) =
     read_field (values_in₁ x.identification) (values_in₃ x.grid) (values_in₄ x.product) (values_in₅ x.packing)
-told (Refused x) = refused_field x.number x.section x.place
-
--- the refusal of an answer that is one; of none, zeros
-abbrev pub refusal_in : Answer → Refusal
-refusal_in (Refused x) = x
-refusal_in (Read x) = no_refusal
+told (Err x) = refused_field x.number x.section x.place

@@ -2,9 +2,9 @@
 #![tactic(auto)]
 
 ghost use Rattle.std.specs.Prelude.{◌≡◌};
-ghost use Rattle.layout.specs.Outcomes.{refusal_of};
-ghost use Rattle.packing.specs.Section5.{told₅};
-ghost use Rattle.field.specs.Field.{field_outcome, packing_outcome, later_outcome, told, refusal_in};
+ghost use Rattle.layout.specs.Outcomes.{told as told_by, check_of};
+ghost use Rattle.packing.specs.Section5.{values_in₅};
+ghost use Rattle.field.specs.Field.{field_outcome, packing_outcome, later_outcome, told};
 
 use grid::Grid;
 use identification::Identification;
@@ -13,18 +13,12 @@ use packing::Packing;
 use product::Product;
 
 // The four records. Of section 7 nothing is left to say: its number is 7, and its length follows from section 5.
-#[derive(Clone, Copy)]
+#[derive(Clone, Copy, PartialEq, Eq)]
 pub struct WholeField {
     pub identification: Identification,
     pub grid: Grid,
     pub product: Product,
     pub packing: Packing,
-}
-
-#[derive(Clone, Copy)]
-pub enum Answer {
-    Read(WholeField),
-    Refused(Refusal),
 }
 
 // Reads the five sections of a field, or refuses them as the first section does that is refused.
@@ -34,26 +28,27 @@ pub fn read(
     section4: &[u8],
     section5: &[u8],
     section7: &[u8],
-) -> Answer
+) -> Result<WholeField, Refusal>
     ensures { told result ≡ field_outcome section1.now section3.now section4.now section5.now section7.now }
 {
+    // Document 01 names the form: each section's answer is taken apart by `let .. else`, and its refusal handed on.
     let one = identification::read(section1);
-    let identification::Answer::Read(identification) = one else {
-        return Answer::Refused(identification::refusal_of(one));
+    let Ok(identification) = one else {
+        return Err(one.unwrap_err());
     };
     let three = grid::read(section3);
-    let grid::Answer::Read(grid) = three else {
-        return Answer::Refused(grid::refusal_of(three));
+    let Ok(grid) = three else {
+        return Err(three.unwrap_err());
     };
     let four = product::read(section4);
-    let product::Answer::Read(product) = four else {
-        return Answer::Refused(product::refusal_of(four));
+    let Ok(product) = four else {
+        return Err(four.unwrap_err());
     };
     let five = read_packing(grid.points, section5, section7);
-    let packing::Answer::Read(packing) = five else {
-        return Answer::Refused(packing::refusal_of(five));
+    let Ok(packing) = five else {
+        return Err(five.unwrap_err());
     };
-    Answer::Read(WholeField {
+    Ok(WholeField {
         identification,
         grid,
         product,
@@ -61,46 +56,24 @@ pub fn read(
     })
 }
 
-// What refuses sections 4, 5 and 7 of a field whose sections 1 and 3 are read, or none: a field may have the sections 1 and 3 of the one
-// before it, which need no second reading. `points` is what octets 7-10 of section 3 say.
-pub fn later_refusal(points: u32, section4: &[u8], section5: &[u8], section7: &[u8]) -> Refusal
-    ensures { result ≡ refusal_of (later_outcome points section4.now section5.now section7.now) }
+// Checks sections 4, 5 and 7 of a field whose sections 1 and 3 are read: a field may have the sections 1 and 3 of the one before it, which need
+// no second reading. `points` is what octets 7-10 of section 3 say.
+pub fn check_later(points: u32, section4: &[u8], section5: &[u8], section7: &[u8]) -> Result<(), Refusal>
+    ensures { result ≡ check_of (later_outcome points section4.now section5.now section7.now) }
 {
-    let four = product::read(section4);
-    let product::Answer::Read(_) = four else {
-        return product::refusal_of(four);
-    };
-    let five = read_packing(points, section5, section7);
-    let packing::Answer::Read(_) = five else {
-        return packing::refusal_of(five);
-    };
-    Refusal::none()
+    product::read(section4)?;
+    read_packing(points, section5, section7)?;
+    Ok(())
 }
 
 // The rest of the reading: section 5, N against section 3's points, section 7.
-fn read_packing(points: u32, section5: &[u8], section7: &[u8]) -> packing::Answer
-    ensures { told₅ result ≡ packing_outcome points section5.now section7.now }
+fn read_packing(points: u32, section5: &[u8], section7: &[u8]) -> Result<Packing, Refusal>
+    ensures { told_by values_in₅ result ≡ packing_outcome points section5.now section7.now }
 {
-    let five = packing::read(section5);
-    let packing::Answer::Read(packing) = five else {
-        return five;
-    };
+    let packing = packing::read(section5)?;
     if packing.values != points {
-        return packing::Answer::Refused(Refusal::of(14, 5));
+        return Err(Refusal::of(14, 5));
     }
-    let seven = packing::read_data(section7, packing.values, packing.bits);
-    let packing::DataAnswer::Read(_) = seven else {
-        return packing::Answer::Refused(packing::data_refusal_of(seven));
-    };
-    five
-}
-
-// The refusal of an answer that is one, for a caller to hand on.
-pub fn refusal_of(answer: Answer) -> Refusal
-    ensures { result ≡ refusal_in answer }
-{
-    match answer {
-        Answer::Refused(x) => x,
-        Answer::Read(_) => Refusal::none(),
-    }
+    packing::read_data(section7, packing.values, packing.bits)?;
+    Ok(packing)
 }

@@ -14,6 +14,10 @@ pub data Outcome : Type 0 where
 abbrev pub refusal : ℕ → ℕ → ℕ → Refusal
 refusal number section place = record { number = number; section = section; place = place }
 
+-- what stands for none
+abbrev pub no_refusal : Refusal
+no_refusal = refusal 0 0 0
+
 -- what a program's refusal says
 abbrev pub refused_by : Refusal → Outcome
 refused_by x = refused x.number x.section x.place

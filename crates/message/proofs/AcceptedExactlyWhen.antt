@@ -12,7 +12,7 @@ use Rattle.field.specs.Field.{FieldOutcome, refused_field, read_field}
 use Rattle.field.specs.Accepted.{AcceptedField}
 use Rattle.field.proofs.AcceptedExactlyWhen.{accepted-exactly-when as field-exactly-when}
 use Rattle.message.specs.declared.Sections.{Sections}
-use Rattle.message.specs.declared.Cut.{Cut}
+use Rattle.message.specs.Walk.{Cut}
 use Rattle.message.specs.Walk.{no_sections}
 use Rattle.message.specs.Grammar.{Group, FirstComplete, Five, Follows, AllFollow, fields_in, Parts, IsFrame, FollowsMessage}
 use Rattle.message.specs.Messages.{shown_in, outcome_of, or_refused, found_in, fields_read, cut_message, read_message, Accepted}

@@ -18,7 +18,7 @@ use Rattle.cutting.specs.Sections.{section_step}
 use Rattle.cutting.proofs.Cuts.{cut-item, cut-stopped, cut-end}
 use Rattle.cutting.proofs.Strung.{cut-both}
 use Rattle.cutting.proofs.Sections.{whole-or-none, sections-advance, sections-look-no-further, sized-spells, cut-sections}
-use Rattle.message.specs.declared.Cut.{Cut}
+use Rattle.message.specs.Walk.{Cut}
 use Rattle.message.specs.Walk.{Walk, number_in, may_follow, other_six, section_refusal, end_refusal, with_section, taken, start_walk, unless_refused, judged_in}
 use Rattle.message.specs.Grammar.{one_behind_the_other}
 use Rattle.message.specs.Messages.{start_reasons, start_refusal, ends_right, sections_in, cut_message, read_message}
@@ -34,38 +34,38 @@ use Rattle.message.proofs.FrameAndFields.{frame-first}
 by-frame : (m : List ℕ) (number : ℕ) → cut_message m ≡ frame_refused number → read_message m ≡ frame_refused number
 by-frame m number e = frame-first m (ap (λ (c : Cut). c.count) e) ∙ e
 
-unless-refused : (x : Refusal) (c : Cut) (number : ℕ) → x ≡ refusal number 0 0 → eqb number 0 ≡ false → unless_refused x c ≡ frame_refused number
-unless-refused x c number e some = ap (λ (y : Refusal). unless_refused y c) e ∙ rw some refl
+unless-refused : (x : Check) (c : Cut) (number : ℕ) → x ≡ Err (refusal number 0 0) → unless_refused x c ≡ frame_refused number
+unless-refused x c number e = ap (λ (y : Check). unless_refused y c) e
 
 -- ---- the start
 
 pub too_long : (m : List ℕ) → 65536 < length m → read_message m ≡ frame_refused 2
 unfolding cut_message start_refusal first_refusal
-too_long m h = by-frame m 2 (unless-refused (start_refusal m) _ 2 (rw (lt-ltb 65536 (length m) h) refl) refl)
+too_long m h = by-frame m 2 (unless-refused (start_refusal m) _ 2 (rw (lt-ltb 65536 (length m) h) refl))
 
 -- reasons that all have one number
 abbrev AllAre : ℕ → List Reason → Type 0
 AllAre number [] = Unit {0}
 AllAre number (r ∷ rs) = (refusal r.number 0 r.place ≡ refusal number 0 0) × AllAre number rs
 
-one_number : (number : ℕ) (rs : List Reason) → AllAre number rs → ((first_refusal 0 rs).number ≡ 0 → ⊥) → first_refusal 0 rs ≡ refusal number 0 0
+one_number : (number : ℕ) (rs : List Reason) → AllAre number rs → (first_refusal 0 rs ≡ Ok tt → ⊥) → first_refusal 0 rs ≡ Err (refusal number 0 0)
 unfolding first_refusal
 one_number number [] are some = absurd (some refl)
 one_number number (r ∷ rs) are some =
-    by-test (λ (t : Bool). let x = cond t (refusal r.number 0 r.place) (first_refusal 0 rs) in (x.number ≡ 0 → ⊥) → x ≡ refusal number 0 0) r.holds
-    (λ e z. are.0) (λ e z. one_number number rs are.1 z) some
+    by-test (λ (t : Bool). let x = cond t (Err (refusal r.number 0 r.place)) (first_refusal 0 rs) in (x ≡ Ok tt → ⊥) → x ≡ Err (refusal number 0 0)) r.holds
+    (λ e z. ap Err are.0) (λ e z. one_number number rs are.1 z) some
 
-start-22 : (m : List ℕ) → length m ≤ 65536 → ((start_refusal m).number ≡ 0 → ⊥) → start_refusal m ≡ refusal 22 0 0
+start-22 : (m : List ℕ) → length m ≤ 65536 → (start_refusal m ≡ Ok tt → ⊥) → start_refusal m ≡ Err (refusal 22 0 0)
 unfolding start_refusal first_refusal
 start-22 m h some =
     let short = le-ltb 65536 (length m) h in
     let others = first_refusal 0 (drop 1 (start_reasons m)) in
     let first : start_refusal m ≡ others = rw short refl in
-    first ∙ one_number 22 (drop 1 (start_reasons m)) (refl, (refl, (refl, (refl, tt)))) (λ e. some (ap (λ (x : Refusal). x.number) first ∙ e))
+    first ∙ one_number 22 (drop 1 (start_reasons m)) (refl, (refl, (refl, (refl, tt)))) (λ e. some (first ∙ e))
 
 pub wrong_start : (m : List ℕ) → length m ≤ 65536 → (Starts m → ⊥) → read_message m ≡ frame_refused 22
 unfolding cut_message
-wrong_start m h wrong = by-frame m 22 (unless-refused (start_refusal m) _ 22 (start-22 m h (λ e. wrong (starts m e))) refl)
+wrong_start m h wrong = by-frame m 22 (unless-refused (start_refusal m) _ 22 (start-22 m h (λ e. wrong (starts m e))))
 
 -- ---- a walk over sections that are as they should be
 
@@ -118,7 +118,7 @@ module _ (m : List ℕ) (before : List (List ℕ)) (last count : ℕ) (left end 
   judged-so : (c : Pieces (List ℕ)) → cut_of section_step left ≡ c → cut_message m ≡ judged_in c.whole (ends_right m) (came c).to (came c).walk c.items
   unfolding cut_message
   judged-so c e =
-      rw (eq-eqb _ 0 (started m r.starts), cut-so, e) (came c).same
+      rw (started m r.starts, cut-so, e) (came c).same
 
   refused-so : (c : Pieces (List ℕ)) (number : ℕ) → cut_of section_step left ≡ c → judged_in c.whole (ends_right m) (came c).to (came c).walk c.items ≡ frame_refused number → read_message m ≡ frame_refused number
   refused-so c number e f = by-frame m number (judged-so c e ∙ f)
@@ -128,42 +128,42 @@ module _ (m : List ℕ) (before : List (List ℕ)) (last count : ℕ) (left end 
   no-section some none = refused-so (record { items = []; whole = false }) 23 (cut-stopped section_step sections-advance left some (no_step left none)) refl
 
   -- a section stands there that is refused with this number
-  at-section : (x : List ℕ) → Begins left x → (number : ℕ) → eqb number 0 ≡ false → section_refusal last count x ≡ refusal number 0 0 → read_message m ≡ frame_refused number
+  at-section : (x : List ℕ) → Begins left x → (number : ℕ) → section_refusal last count x ≡ Err (refusal number 0 0) → read_message m ≡ frame_refused number
   unfolding judged_in
-  at-section x b number some e =
+  at-section x b number e =
       let s = x ++ b.behind in
       let rest = cut_of section_step (drop (length x) s) in
       let c = in_front x rest in
       let w = came c in
       refused-so c number (ap (cut_of section_step) b.is ∙ cut-item section_step sections-advance s x (length x) (sized-spells x b.sized b.behind))
-      (unless-refused _ _ number ((λ i. section_refusal (w.last-is i) (w.count-is i) x) ∙ e) some)
+      (unless-refused _ _ number ((λ i. section_refusal (w.last-is i) (w.count-is i) x) ∙ e))
 
   pub out_of_order : (x : List ℕ) → Begins left x → may_follow last (number_in x) ≡ false → read_message m ≡ frame_refused 23
   unfolding section_refusal first_refusal
-  out_of_order x b order = at-section x b 23 refl (rw order refl)
+  out_of_order x b order = at-section x b 23 (rw order refl)
 
   pub another-six : (x : List ℕ) → Begins left x → may_follow last (number_in x) ≡ true → other_six x ≡ true → read_message m ≡ frame_refused 24
   unfolding section_refusal first_refusal
-  another-six x b order six = at-section x b 24 refl (rw (order, six) refl)
+  another-six x b order six = at-section x b 24 (rw (order, six) refl)
 
   pub after-the-16th : (x : List ℕ) → Begins left x → may_follow last (number_in x) ≡ true → other_six x ≡ false → 16 ≤ count → read_message m ≡ frame_refused 25
   unfolding section_refusal first_refusal
-  after-the-16th x b order six many = at-section x b 25 refl (rw (order, six, lt-ltb 15 count (omega arith)) refl)
+  after-the-16th x b order six many = at-section x b 25 (rw (order, six, lt-ltb 15 count (omega arith)) refl)
 
   -- no octet is left before the last four, and they are refused with this number
-  at-end : left ≡ [] → (number : ℕ) → eqb number 0 ≡ false → end_refusal last (ends_right m) ≡ refusal number 0 0 → read_message m ≡ frame_refused number
+  at-end : left ≡ [] → (number : ℕ) → end_refusal last (ends_right m) ≡ Err (refusal number 0 0) → read_message m ≡ frame_refused number
   unfolding judged_in
-  at-end none number some e =
+  at-end none number e =
       let c : Pieces (List ℕ) = record { items = []; whole = true } in
       refused-so c number (cut-end section_step sections-advance left (omega (arith, ap length none)))
-      (unless-refused _ _ number (ap (λ (l : ℕ). end_refusal l (ends_right m)) (came c).last-is ∙ e) some)
+      (unless-refused _ _ number (ap (λ (l : ℕ). end_refusal l (ends_right m)) (came c).last-is ∙ e))
 
   pub section-missing : left ≡ [] → (last ≡ 7 → ⊥) → read_message m ≡ frame_refused 23
   unfolding end_refusal first_refusal
-  section-missing none other = at-end none 23 refl (rw (ne_eqb last 7 other) refl)
+  section-missing none other = at-end none 23 (rw (ne_eqb last 7 other) refl)
 
   pub not-7777 : left ≡ [] → last ≡ 7 → (be_at end 1 4 ≡ 0x37373737 → ⊥) → read_message m ≡ frame_refused 25
   unfolding end_refusal first_refusal
   not-7777 none seven other =
       let ends = sym (last-four m) ∙ ap (λ (l : List ℕ). be_at l 1 4) (last-4 m r.zero (one_behind_the_other before ++ left) end r.strung r.sixteen r.four) in
-      at-end none 25 refl (rw (eq-eqb last 7 seven, ne_eqb _ 0x37373737 (λ e. other (sym ends ∙ e))) refl)
+      at-end none 25 (rw (eq-eqb last 7 seven, ne_eqb _ 0x37373737 (λ e. other (sym ends ∙ e))) refl)

@@ -14,7 +14,7 @@ use Rattle.layout.specs.Fields.{between}
 use Rattle.layout.specs.Outcomes.{no_refusal, first_refusal}
 use Rattle.layout.specs.declared.Span.{Span}
 use Rattle.message.specs.declared.Sections.{Sections}
-use Rattle.message.specs.declared.Cut.{Cut}
+use Rattle.message.specs.Walk.{Cut}
 use Rattle.message.specs.Walk.{Walk, may_follow, other_six, end_refusal, in_force, one_more, with_section, no_sections, judged_in, span_at}
 use Rattle.message.specs.Grammar.{Is, Opening, at_two, at_three, at_four, Opens, Complete, Group, opened, sections_of, all_sections, IsGroup, AreGroups}
 use Rattle.message.specs.Places.{four_after, three_at, place_of, next_after, places_of, padded, fields_found}

@@ -31,7 +31,7 @@ use Rattle.field.specs.Refused.{field_table}
 use Rattle.field.proofs.Later.{first-refusal}
 use Rattle.field.proofs.RefusalNumbers.{RefusesField, refuses-field}
 use Rattle.message.specs.declared.Sections.{Sections}
-use Rattle.message.specs.declared.Cut.{Cut}
+use Rattle.message.specs.Walk.{Cut}
 use Rattle.message.specs.Walk.{refused_with, unless_refused}
 use Rattle.message.specs.Grammar.{Five}
 use Rattle.message.specs.Messages.{shown_in, outcome_of, opening_outcome, same_section, WasRead, OpeningRead, or_refused, fields_read}
@@ -50,46 +50,33 @@ again outcome m before x was same =
 
 -- ---- sections 1 and 3, and then the others
 
-stopped : (one three later : Outcome) → ((refusal_of (and_then one three)).number ≡ 0 → ⊥) → refusal_of (and_then one three) ≡ refusal_of (and_then one (and_then three later))
-unfolding and_then
-stopped (refused number section place) three later h = refl
-stopped (read vs) (refused number section place) later h = refl
-stopped (read vs) (read ws) later h = absurd (h refl)
+both_checked : (one three later : Outcome) → and_check (check_of (and_then one three)) (check_of later) ≡ check_of (and_then one (and_then three later))
+unfolding and_then and_check
+both_checked (refused number section place) three later = refl
+both_checked (read vs) (refused number section place) later = refl
+both_checked (read vs) (read ws) later = refl
 
-passed : (one three later : Outcome) → Proper one → Proper three → (refusal_of (and_then one three)).number ≡ 0 → refusal_of later ≡ refusal_of (and_then one (and_then three later))
-unfolding and_then
-passed (refused number section place) three later p q e = absurd (p.0 e)
-passed (read vs) (refused number section place) later p q e = absurd (q.0 e)
-passed (read vs) (read ws) later p q e = refl
-
-module _ (x : Five) where
-  pub opening-refused : ((refusal_of (opening_outcome x)).number ≡ 0 → ⊥) → refusal_of (opening_outcome x) ≡ field_refusal (outcome_of x)
-  unfolding outcome_of
-  opening-refused h = stopped (outcome₁ x.one) (outcome₃ x.three) _ h ∙ sym (first-refusal x.one x.three x.four x.five x.seven)
-
-  pub opening-passed : (refusal_of (opening_outcome x)).number ≡ 0 → refusal_of (later_outcome (points_at x.three) x.four x.five x.seven) ≡ field_refusal (outcome_of x)
-  unfolding outcome_of
-  opening-passed e =
-      passed (outcome₁ x.one) (outcome₃ x.three) _ (proper table₁ (outcome₁ x.one) refl (refuses₁ x.one)) (proper table₃ (outcome₃ x.three) refl (refuses₃ x.three)) e
-      ∙ sym (first-refusal x.one x.three x.four x.five x.seven)
+-- a field's check is that of sections 1 and 3, and then that of the others
+pub field_checks : (x : Five) → and_check (check_of (opening_outcome x)) (check_of (later_outcome (points_at x.three) x.four x.five x.seven)) ≡ field_check (outcome_of x)
+unfolding outcome_of
+field_checks x = both_checked (outcome₁ x.one) (outcome₃ x.three) _ ∙ sym (first-refusal x.one x.three x.four x.five x.seven)
 
 -- ---- one field
 
-accepted : (o : FieldOutcome) → RefusesField o → (field_refusal o).number ≡ 0 → AcceptedField o
-accepted (refused_field number section place) r e = absurd ((proper field_table (refused number section place) refl r).0 e)
-accepted (read_field one three four five) r e = tt
+accepted : (o : FieldOutcome) → field_check o ≡ Ok tt → AcceptedField o
+accepted (refused_field number section place) e = let z : ◌≡◌ {A = ℕ} 0 1 = cc in absurd (omega arith)
+accepted (read_field one three four five) e = tt
 
-accepted-five : (x : Five) → (field_refusal (outcome_of x)).number ≡ 0 → AcceptedField (outcome_of x)
-unfolding outcome_of
-accepted-five x e = accepted (outcome_of x) (refuses-field x.one x.three x.four x.five x.seven) e
+accepted-five : (x : Five) → field_check (outcome_of x) ≡ Ok tt → AcceptedField (outcome_of x)
+accepted-five x e = accepted (outcome_of x) e
 
-refused-field : (o : FieldOutcome) (c : Cut) → ((field_refusal o).number ≡ 0 → ⊥) → refused_with (field_refusal o) ≡ or_refused o c
+refused-field : (o : FieldOutcome) (c : Cut) (x : Refusal) → field_check o ≡ Err x → refused_with x ≡ or_refused o c
 unfolding or_refused
-refused-field (refused_field number section place) c h = refl
-refused-field (read_field one three four five) c h = absurd (h refl)
+refused-field (refused_field number section place) c x e = ap refused_with (cc)
+refused-field (read_field one three four five) c x e = let z : ◌≡◌ {A = ℕ} 0 1 = cc in absurd (omega arith)
 
 -- of a field that is read, sections 1 and 3 were
-pub opening-read : (m : List ℕ) (f : Sections) → (field_refusal (outcome_of (shown_in m f))).number ≡ 0 → OpeningRead m f
+pub opening-read : (m : List ℕ) (f : Sections) → field_check (outcome_of (shown_in m f)) ≡ Ok tt → OpeningRead m f
 opening-read m f e =
     let follows = follows-five (shown_in m f) (accepted-five (shown_in m f) e) in
     record { one = λ h. (exactly₁ _).1 follows.identified; three = λ h. (exactly₃ _).1 follows.gridded }
@@ -115,16 +102,13 @@ one_left m c k d h l =
     rw (more, drop-cons c.fields k d l, add-one) refl
 
 -- the k-th field is read, and then those behind it; or it is refused
-module _ (m : List ℕ) (c : Cut) (k : ℕ) (d : Sections) (h : k < c.count) (l : k < length c.fields) (x : Refusal) (p : x ≡ field_refusal (outcome_of (shown_in m (get_or c.fields k d)))) where
-  pub next-read : x.number ≡ 0 → fields_read c (shown_from m c (k + 1)) ≡ fields_read c (shown_from m c k)
+module _ (m : List ℕ) (c : Cut) (k : ℕ) (d : Sections) (h : k < c.count) (l : k < length c.fields) where
+  pub next-read : field_check (outcome_of (shown_in m (get_or c.fields k d))) ≡ Ok tt → fields_read c (shown_from m c (k + 1)) ≡ fields_read c (shown_from m c k)
   unfolding fields_read
   next-read e =
-      sym (taken-on _ (fields_read c (shown_from m c (k + 1))) (accepted-five _ (ap (λ (y : Refusal). y.number) (sym p) ∙ e))) ∙ sym (ap (fields_read c) (one_left m c k d h l))
+      sym (taken-on _ (fields_read c (shown_from m c (k + 1))) (accepted-five _ e)) ∙ sym (ap (fields_read c) (one_left m c k d h l))
 
-  pub next-refused : (x.number ≡ 0 → ⊥) → unless_refused x c ≡ fields_read c (shown_from m c k)
+  pub next-refused : (x : Refusal) → field_check (outcome_of (shown_in m (get_or c.fields k d))) ≡ Err x → refused_with x ≡ fields_read c (shown_from m c k)
   unfolding fields_read
-  next-refused n =
-      rw (ne_eqb _ _ n)
-      (ap refused_with p
-      ∙ refused-field _ (fields_read c (shown_from m c (k + 1))) (λ e. n (ap (λ (y : Refusal). y.number) p ∙ e))
-      ∙ sym (ap (fields_read c) (one_left m c k d h l)))
+  next-refused x e =
+      refused-field _ (fields_read c (shown_from m c (k + 1))) x e ∙ sym (ap (fields_read c) (one_left m c k d h l))

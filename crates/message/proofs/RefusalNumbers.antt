@@ -18,7 +18,7 @@ use Rattle.layout.proofs.Refusals.{by-test, within, wider, placeless, AllListed,
 use Rattle.field.specs.Field.{FieldOutcome, refused_field, read_field}
 use Rattle.field.specs.Refused.{field_table}
 use Rattle.field.proofs.RefusalNumbers.{RefusesField, refuses-field}
-use Rattle.message.specs.declared.Cut.{Cut}
+use Rattle.message.specs.Walk.{Cut}
 use Rattle.message.specs.Walk.{Walk, number_in, refused_with, unless_refused, section_reasons, section_refusal, end_reasons, end_refusal, with_section, taken, start_walk, span_at, judged_in}
 use Rattle.message.specs.Grammar.{Five, Parts, fields_in, IsFrame}
 use Rattle.message.specs.Messages.{start_reasons, start_refusal, ends_right, sections_in, cut_message, outcome_of, or_refused, found_in, fields_read, read_message, Accepted}
@@ -32,16 +32,15 @@ use Rattle.message.proofs.FrameAndFields.{frame-first}
 -- ---- one refusal, or what is said where there is none
 
 -- none, or one that the table lists
-abbrev Told : Refusal → Type 0
-Told x = (x ≡ no_refusal) ⊎ Listed frame_table x
+abbrev Told : Check → Type 0
+Told = PassedOrListed frame_table
 
 refused-listed : (table : List Row) (x : Refusal) → Listed table x → Decided table (refused_with x)
 refused-listed table x l = inr (refl, l)
 
-unless-decided : (x : Refusal) (c : Cut) → Told x → (x.number ≡ 0 → Decided frame_table c) → Decided frame_table (unless_refused x c)
-unless-decided x c told d =
-    by-test (λ (t : Bool). Decided frame_table (cond t c (refused_with x))) (eqb x.number 0) (λ e. d (eqb-true _ 0 e))
-    (λ e. refused-listed frame_table x (⊎_elim (λ none. absurd (eqb-false _ 0 e (ap (λ (y : Refusal). y.number) none))) (λ l. l) told))
+unless-decided : (x : Check) (c : Cut) → Told x → (x ≡ Ok tt → Decided frame_table c) → Decided frame_table (unless_refused x c)
+unless-decided _ c passed d = d refl
+unless-decided _ c (listed x l) d = refused-listed frame_table x l
 
 -- ---- the frame
 

@@ -10,7 +10,7 @@ use lib.ListN.{length}
 use borrow.Author.Tests.{eqb-true}
 use Rattle.layout.specs.declared.Refusal.{Refusal}
 use Rattle.message.specs.declared.Sections.{Sections}
-use Rattle.message.specs.declared.Cut.{Cut}
+use Rattle.message.specs.Walk.{Cut}
 use Rattle.message.specs.Walk.{Walk, number_in, section_refusal, one_more, with_section, taken, refused_with, unless_refused, judged_in}
 use Rattle.message.specs.Messages.{Accepted}
 use Rattle.message.specs.FirstPlace.{Clear, fields_after}
@@ -22,12 +22,9 @@ Steps last count [] = last ≡ 7
 Steps last count (x ∷ xs) = Clear last count x × Steps (number_in x) (fields_after (number_in x) count) xs
 
 -- what is accepted was refused by nothing
-pub unless-accepted : (x : Refusal) (c : Cut) → Accepted (unless_refused x c) → (x.number ≡ 0) × Accepted c
-unless-accepted x c a = by_number (eqb x.number 0) refl a
-  where
-    by_number : (t : Bool) → eqb x.number 0 ≡ t → Accepted (cond t c (refused_with x)) → (x.number ≡ 0) × Accepted c
-    by_number true e a = (eqb-true _ _ e, a)
-    by_number false e a = absurd (omega arith)
+pub unless-accepted : (x : Check) (c : Cut) → Accepted (unless_refused x c) → (x ≡ Ok tt) × Accepted c
+unless-accepted (Ok u) c a = (refl, a)
+unless-accepted (Err x) c a = absurd (omega arith)
 
 pub count-after : (t : Bool) (c : Cut) (f : Sections) → (cond t (one_more c f) c).count ≡ cond t (c.count + 1) c.count
 count-after true c f = refl

@@ -12,7 +12,7 @@ use Rattle.layout.specs.Spans.{nowhere, octets_in}
 use Rattle.layout.specs.Refusals.{one_of}
 use Rattle.layout.proofs.Refusals.{by-test}
 use Rattle.message.specs.declared.Sections.{Sections}
-use Rattle.message.specs.declared.Cut.{Cut}
+use Rattle.message.specs.Walk.{Cut}
 use Rattle.message.specs.Walk.{no_sections}
 use Rattle.message.specs.Grammar.{Five, no_five, Follows, AllFollow, fields_in, FollowsMessage}
 use Rattle.message.specs.Messages.{shown_in, span_of, field_of, section_in, numbered, read_message}

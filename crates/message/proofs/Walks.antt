@@ -9,25 +9,26 @@ use mathlib.Core.List.{List, ◌∷◌}
 use lib.Dec.{eqb}
 use lib.ListN.{length, drop, length-drop}
 use lib.Seq.{length-take-le, drop-drop}
-use borrow.Author.Tests.{eq-eqb, ne_eqb}
+use Rattle.std.specs.Prelude.{Ok, Err}
+use Rattle.layout.specs.declared.Refusal.{Refusal}
 use Rattle.layout.specs.Outcomes.{refusal}
 use Rattle.cutting.specs.Cuts.{in_front, cut_of}
 use Rattle.cutting.specs.Sections.{stretch, section_step, end_after}
 use Rattle.cutting.proofs.Cuts.{cut-item, cut-stopped, cut-end}
 use Rattle.cutting.proofs.Sections.{EndsAfter, ends-or-none, sections-advance}
 use Rattle.message.specs.declared.Sections.{Sections}
-use Rattle.message.specs.declared.Cut.{Cut}
+use Rattle.message.specs.Walk.{Cut}
 use Rattle.message.specs.Walk.{Walk, number_in, section_refusal, end_refusal, in_force, one_more, with_section, taken, unless_refused, refused_with, judged_in, judged}
 
 -- ---- one section more
 
-pub judged-on : (whole right : Bool) (at : ℕ) (w : Walk) (x : List ℕ) (xs : List (List ℕ)) → (section_refusal w.last w.found.count x).number ≡ 0 → judged_in whole right at w (x ∷ xs) ≡ judged_in whole right (at + length x) (taken at w x) xs
+pub judged-on : (whole right : Bool) (at : ℕ) (w : Walk) (x : List ℕ) (xs : List (List ℕ)) → section_refusal w.last w.found.count x ≡ Ok tt → judged_in whole right at w (x ∷ xs) ≡ judged_in whole right (at + length x) (taken at w x) xs
 unfolding judged_in
-judged-on whole right at w x xs e = rw (eq-eqb _ 0 e)
+judged-on whole right at w x xs e = rw e refl
 
-judged-refused : (whole right : Bool) (at : ℕ) (w : Walk) (x : List ℕ) (xs : List (List ℕ)) → ((section_refusal w.last w.found.count x).number ≡ 0 → ⊥) → judged_in whole right at w (x ∷ xs) ≡ refused_with (section_refusal w.last w.found.count x)
+judged-refused : (whole right : Bool) (at : ℕ) (w : Walk) (x : List ℕ) (xs : List (List ℕ)) (r : Refusal) → section_refusal w.last w.found.count x ≡ Err r → judged_in whole right at w (x ∷ xs) ≡ refused_with r
 unfolding judged_in
-judged-refused whole right at w x xs e = rw (ne_eqb _ 0 e)
+judged-refused whole right at w x xs r e = rw e refl
 
 -- ---- the walk
 
@@ -63,14 +64,14 @@ module _ (body : List ℕ) (right : Bool) (w : Walk) (at end : ℕ) (s : EndsAft
   long : length (stretch body at end) ≡ end - at
   long = length-take-le (end - at) (drop at body) (omega (arith, s.later, s.inside, length-drop at body))
 
-  pub walk_refused : ((section_refusal w.last w.found.count (stretch body at end)).number ≡ 0 → ⊥) → refused_with (section_refusal w.last w.found.count (stretch body at end)) ≡ judged_from body right w at
-  walk_refused e =
+  pub walk_refused : (r : Refusal) → section_refusal w.last w.found.count (stretch body at end) ≡ Err r → refused_with r ≡ judged_from body right w at
+  walk_refused r e =
       let rest = cut_of section_step (drop end body) in
-      sym (ap (judged right at w) next ∙ judged-refused rest.whole right at w (stretch body at end) rest.items e)
+      sym (ap (judged right at w) next ∙ judged-refused rest.whole right at w (stretch body at end) rest.items r e)
 
   -- it is taken, by its number, and a 7 ends a field
   pub walk-on : (n : ℕ) (f : Sections) (c : Cut) → n ≡ number_in (stretch body at end) → f ≡ in_force w.force n (record { before = at; length = end - at }) → c ≡ cond (eqb n 7) (one_more w.found f) w.found
-      → (section_refusal w.last w.found.count (stretch body at end)).number ≡ 0 → judged_from body right (record { last = n; force = f; found = c }) end ≡ judged_from body right w at
+      → section_refusal w.last w.found.count (stretch body at end) ≡ Ok tt → judged_from body right (record { last = n; force = f; found = c }) end ≡ judged_from body right w at
   unfolding with_section
   walk-on n f c met force found e =
       let x = stretch body at end in

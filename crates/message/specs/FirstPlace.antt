@@ -4,7 +4,7 @@ use Rattle.std.specs.Prelude.{ℕ, ◌+◌, ◌≤◌, ◌<◌, ◌≡◌, true,
 use Rattle.octets.specs.Octets.{be_at}
 use Rattle.layout.specs.Outcomes.{refusal}
 use Rattle.cutting.specs.Sections.{Sized}
-use Rattle.message.specs.declared.Cut.{Cut}
+use Rattle.message.specs.Walk.{Cut}
 use Rattle.message.specs.Grammar.{one_behind_the_other}
 use Rattle.message.specs.Walk.{number_in, may_follow, other_six, refused_with}
 

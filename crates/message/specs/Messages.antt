@@ -3,17 +3,16 @@
 use Rattle.std.specs.Prelude.{ℕ, ◌+◌, ◌-◌, ◌≤◌, ◌<◌, ◌≡◌, List, [], ◌∷◌, map, Bool, not, cond, ◌&&◌, ltb, eqb, length, take, drop, get_or}
 use Rattle.octets.specs.Octets.{be_at}
 use Rattle.layout.specs.Fields.{Value}
-use Rattle.layout.specs.Outcomes.{Outcome, read, and_then, Reason, reason, first_refusal, refusal}
+use Rattle.layout.specs.Outcomes.{Outcome, read, and_then, Reason, reason, Check, first_refusal, refusal}
 use Rattle.layout.specs.Spans.{nowhere, octets_in}
 use Rattle.layout.specs.declared.Span.{Span}
-use Rattle.layout.specs.declared.Refusal.{Refusal}
 use Rattle.cutting.specs.Cuts.{Cut as Pieces, cut_of}
 use Rattle.cutting.specs.Sections.{section_step}
 use Rattle.identification.specs.Section1.{outcome₁}
 use Rattle.grid.specs.Section3.{outcome₃}
 use Rattle.field.specs.Field.{FieldOutcome, refused_field, read_field, field_outcome}
 use Rattle.message.specs.declared.Sections.{Sections}
-use Rattle.message.specs.declared.Cut.{Cut}
+use Rattle.message.specs.Walk.{Cut}
 use Rattle.message.specs.Grammar.{Five}
 use Rattle.message.specs.Walk.{no_sections, refused_with, unless_refused, start_walk, judged}
 
@@ -29,7 +28,7 @@ start_reasons m =
     ∷ reason 22 (not (eqb (be_at m 9 8) (length m)))
     ∷ []
 
-unfoldable pub start_refusal : List ℕ → Refusal
+unfoldable pub start_refusal : List ℕ → Check
 start_refusal m = first_refusal 0 (start_reasons m)
 
 -- the last four octets are 7777

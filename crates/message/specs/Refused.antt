@@ -4,7 +4,7 @@ use Rattle.std.specs.Prelude.{◌≡◌, ◌⊎◌, List, [], ◌∷◌}
 use Rattle.layout.specs.Outcomes.{no_refusal}
 use Rattle.layout.specs.Refusals.{Row, row, Listed}
 use Rattle.field.specs.Refused.{field_table}
-use Rattle.message.specs.declared.Cut.{Cut}
+use Rattle.message.specs.Walk.{Cut}
 use Rattle.message.specs.Walk.{refused_with}
 use Rattle.message.specs.Messages.{Accepted}
 

@@ -1,17 +1,23 @@
 -- The walk over a message's sections: what each is refused with, and what it leaves in force.
 -- Assumes nothing.
-use Rattle.std.specs.Prelude.{ℕ, ◌+◌, List, [], ◌∷◌, Bool, not, cond, ◌&&◌, ltb, eqb, length, set, replicate}
+use Rattle.std.specs.Prelude.{ℕ, ◌+◌, List, [], ◌∷◌, Bool, not, cond, ◌&&◌, ltb, eqb, length, set, replicate, Result, Ok, Err}
 use Rattle.octets.specs.Octets.{be_at}
 use Rattle.layout.specs.Fields.{between}
-use Rattle.layout.specs.Outcomes.{Reason, reason, first_refusal, refusal, no_refusal}
+use Rattle.layout.specs.Outcomes.{Reason, reason, Check, first_refusal, refusal, no_refusal}
 use Rattle.layout.specs.Spans.{nowhere}
 use Rattle.layout.specs.declared.Span.{Span}
 use Rattle.layout.specs.declared.Refusal.{Refusal}
 use Rattle.cutting.specs.Cuts.{Cut as Pieces}
 use Rattle.message.specs.declared.Sections.{Sections}
-use Rattle.message.specs.declared.Cut.{Cut}
+use Rattle.message.specs.declared.Fields.{Fields}
 
 -- ---- refused, or not
+
+-- what is read of a message: its refusal, and its fields, of which the first `count` are there
+pub record Cut : Type 0 where
+  pub refusal : Refusal
+  pub count : ℕ
+  pub fields : List Sections
 
 abbrev pub no_sections : Sections
 no_sections = record { one = nowhere; three = nowhere; four = nowhere; five = nowhere; seven = nowhere }
@@ -20,9 +26,15 @@ no_sections = record { one = nowhere; three = nowhere; four = nowhere; five = no
 abbrev pub refused_with : Refusal → Cut
 refused_with x = record { refusal = x; count = 0; fields = replicate 16 no_sections }
 
--- the number 0 says that nothing refuses it
-abbrev pub unless_refused : Refusal → Cut → Cut
-unless_refused x c = cond (eqb x.number 0) c (refused_with x)
+-- what a check refuses has none either
+abbrev pub unless_refused : Check → Cut → Cut
+unless_refused (Err x) c = refused_with x
+unless_refused (Ok u) c = c
+
+-- what a program's answer says; where nothing refuses the message, the refusal is none
+abbrev pub told : Result Fields Refusal → Cut
+told (Err x) = refused_with x
+told (Ok f) = record { refusal = no_refusal; count = f.count; fields = f.fields }
 
 -- ---- one section
 
@@ -45,14 +57,14 @@ section_reasons last count x =
     ∷ reason 25 (ltb 15 count)
     ∷ []
 
-unfoldable pub section_refusal : ℕ → ℕ → List ℕ → Refusal
+unfoldable pub section_refusal : ℕ → ℕ → List ℕ → Check
 section_refusal last count x = first_refusal 0 (section_reasons last count x)
 
 -- at the last four octets, behind section `last`: a section is missing, or they are not 7777
 abbrev pub end_reasons : ℕ → Bool → List Reason
 end_reasons last right = reason 23 (not (eqb last 7)) ∷ reason 25 (not right) ∷ []
 
-unfoldable pub end_refusal : ℕ → Bool → Refusal
+unfoldable pub end_refusal : ℕ → Bool → Check
 end_refusal last right = first_refusal 0 (end_reasons last right)
 
 -- ---- what is in force

@@ -1,13 +1,12 @@
 // Whole messages: one walk over the sections of a lent message, and its fields' sections as parts of it. Nothing is copied.
 #![tactic(auto)]
 
-ghost use Rattle.std.specs.Prelude.{◌≡◌, drop};
+ghost use Rattle.std.specs.Prelude.{◌≡◌, drop, take};
 ghost use Rattle.cutting.specs.Cuts.{cut_of};
 ghost use Rattle.cutting.specs.Sections.{section_step};
-ghost use Rattle.layout.specs.Fields.{between};
-ghost use Rattle.layout.specs.Outcomes.{refusal_of};
-ghost use Rattle.field.specs.Field.{field_refusal};
-ghost use Rattle.message.specs.Walk.{no_sections, in_force, refused_with, unless_refused, may_follow, other_six, section_refusal, end_refusal, judged, start_walk};
+ghost use Rattle.layout.specs.Outcomes.{check_of};
+ghost use Rattle.field.specs.Field.{field_check};
+ghost use Rattle.message.specs.Walk.{no_sections, told, in_force, unless_refused, may_follow, other_six, section_refusal, end_refusal, judged, start_walk};
 ghost use Rattle.message.specs.Messages.{start_refusal, cut_message, shown_in, outcome_of, opening_outcome, same_section, OpeningRead, found_in, fields_read, read_message, field_of, span_of, section_in};
 
 use layout::{Refusal, Span};
@@ -20,7 +19,7 @@ const END: u32 = 0x3737_3737;
 const DATA: u8 = 7;
 
 // Where the five sections of a field stand in their message.
-#[derive(Clone, Copy)]
+#[derive(Clone, Copy, PartialEq, Eq)]
 pub struct Sections {
     pub one: Span,
     pub three: Span,
@@ -29,49 +28,54 @@ pub struct Sections {
     pub seven: Span,
 }
 
-// The fields of a message, of which the first `count` are there. A refused message has none; where none refuses, the refusal is none.
-#[derive(Clone, Copy)]
-pub struct Cut {
-    pub refusal: Refusal,
+// The fields of a message, of which the first `count` are there: at most 16, so that they need no heap.
+#[derive(Clone, Copy, PartialEq, Eq)]
+pub struct Fields {
     pub count: usize,
     pub fields: [Sections; 16],
 }
 
-// Reads a message: 2 and 22 to 25 by its frame, and then the refusal of the first field refused.
-#[tactic(auto, unfolding(crate::specs::Messages::read_message))]
-pub fn read(message: &[u8]) -> Cut
-    ensures { result ≡ read_message message.now }
-{
-    let cut = cut_frame(message);
-    let refusal = fields_refusal(message, cut);
-    if refusal.number != 0 {
-        return refused_with(refusal);
+impl Fields {
+    // Those that are there.
+    pub fn found(&self) -> &[Sections]
+        ensures { result.now ≡ take self.now.count self.now.fields }
+    {
+        &self.fields[..self.count.min(16)]
     }
-    cut
 }
 
-// A section of the k-th field, from 0: those very octets of the message. No octets where the message is refused, where it has no such
-// field, and for a section that is none of the five.
-#[tactic(auto, unfolding(crate::specs::Messages::section_in))]
-pub fn section(message: &[u8], cut: Cut, k: usize, section: u8) -> &[u8]
-    ensures { result.now ≡ section_in message.now cut k section }
+// Reads a message: 2 and 22 to 25 by its frame, and then the refusal of the first field refused.
+#[tactic(auto, unfolding(crate::specs::Messages::read_message))]
+pub fn read(message: &[u8]) -> Result<Fields, Refusal>
+    ensures { told result ≡ read_message message.now }
 {
-    let span = span_of(field_of(cut, k), section);
+    let fields = cut_frame(message)?;
+    check_fields(message, fields)?;
+    Ok(fields)
+}
+
+// A section of the k-th field, from 0: those very octets of the message. No octets where it has no such field, and for a section that is
+// none of the five.
+#[tactic(auto, unfolding(crate::specs::Messages::section_in))]
+pub fn section(message: &[u8], fields: Fields, k: usize, section: u8) -> &[u8]
+    ensures { result.now ≡ section_in message.now (told (Ok fields)) k section }
+{
+    let span = span_of(field_of(fields, k), section);
     octets::part_after(message, span.before, span.length)
 }
 
 // Where the k-th field's sections stand, from 0; past the last field, nowhere.
 #[tactic(auto, using(octets::proofs::Lists::unmapped))]
-pub fn field_of(cut: Cut, k: usize) -> Sections
-    ensures { result ≡ field_of cut k }
+pub fn field_of(fields: Fields, k: usize) -> Sections
+    ensures { result ≡ field_of (told (Ok fields)) k }
 {
-    if cut.count <= k {
+    if fields.count <= k {
         return no_sections();
     }
     if 15 < k {
         return no_sections();
     }
-    cut.fields[k]
+    fields.fields[k]
 }
 
 // Where a section stands; one that is none of the five stands nowhere.
@@ -90,63 +94,45 @@ pub fn span_of(sections: Sections, section: u8) -> Span
 }
 
 // Reads the fields that were found, in order, up to the first that is refused.
-fn fields_refusal(message: &[u8], cut: Cut) -> Refusal
-    ensures { unless_refused result cut ≡ fields_read cut (found_in message.now cut) }
+fn check_fields(message: &[u8], fields: Fields) -> Result<(), Refusal>
+    ensures { unless_refused result (told (Ok fields)) ≡ fields_read (told (Ok fields)) (found_in message.now (told (Ok fields))) }
 {
     let mut before = no_sections();
-    let mut k: usize = 0;
-    while k < 16 {
-        if cut.count <= k {
-            return Refusal::none();
-        }
-        let sections = cut.fields[k];
-        let refusal = field_refusal(message, before, sections);
-        if refusal.number != 0 {
-            return refusal;
-        }
-        before = sections;
-        k += 1;
+    for sections in fields.found() {
+        check_field(message, before, *sections)?;
+        before = *sections;
     }
-    Refusal::none()
+    Ok(())
 }
 
 // Reads one field, whose sections are parts of the message, behind the field before.
-fn field_refusal(message: &[u8], before: Sections, sections: Sections) -> Refusal
+#[tactic(auto, using(crate::proofs::Reading::field_checks), unfolding(layout::specs::Outcomes::and_check))]
+fn check_field(message: &[u8], before: Sections, sections: Sections) -> Result<(), Refusal>
     requires { OpeningRead message.now before }
-    ensures { result ≡ field_refusal (outcome_of (shown_in message.now sections)) }
+    ensures { result ≡ field_check (outcome_of (shown_in message.now sections)) }
 {
-    let refusal = opening_refusal(message, before, sections);
-    if refusal.number != 0 {
-        return refusal;
-    }
+    check_opening(message, before, sections)?;
     let section3 = octets::part_after(message, sections.three.before, sections.three.length);
     let section4 = octets::part_after(message, sections.four.before, sections.four.length);
     let section5 = octets::part_after(message, sections.five.before, sections.five.length);
     let section7 = octets::part_after(message, sections.seven.before, sections.seven.length);
-    field::later_refusal(octets::u32_at(section3, 7), section4, section5, section7)
+    field::check_later(octets::u32_at(section3, 7), section4, section5, section7)
 }
 
 // Sections 1 and 3 of a field: one that the field before has too was read there, and is not read again.
-fn opening_refusal(message: &[u8], before: Sections, sections: Sections) -> Refusal
+fn check_opening(message: &[u8], before: Sections, sections: Sections) -> Result<(), Refusal>
     requires { OpeningRead message.now before }
-    ensures { result ≡ refusal_of (opening_outcome (shown_in message.now sections)) }
+    ensures { result ≡ check_of (opening_outcome (shown_in message.now sections)) }
 {
     if !stands_there(before.one, sections.one) {
         let section1 = octets::part_after(message, sections.one.before, sections.one.length);
-        let one = identification::read(section1);
-        let identification::Answer::Read(_) = one else {
-            return identification::refusal_of(one);
-        };
+        identification::read(section1)?;
     }
-    if stands_there(before.three, sections.three) {
-        return Refusal::none();
+    if !stands_there(before.three, sections.three) {
+        let section3 = octets::part_after(message, sections.three.before, sections.three.length);
+        grid::read(section3)?;
     }
-    let section3 = octets::part_after(message, sections.three.before, sections.three.length);
-    let three = grid::read(section3);
-    let grid::Answer::Read(_) = three else {
-        return grid::refusal_of(three);
-    };
-    Refusal::none()
+    Ok(())
 }
 
 // Whether a section is the one that stands at `before`; where that is nowhere, none does.
@@ -154,24 +140,15 @@ fn opening_refusal(message: &[u8], before: Sections, sections: Sections) -> Refu
 fn stands_there(before: Span, section: Span) -> bool
     ensures { result ≡ same_section before section }
 {
-    if before.length == 0 {
-        return false;
-    }
-    if before.before != section.before {
-        return false;
-    }
-    before.length == section.length
+    before.length != 0 && before == section
 }
 
 // The frame: section 0, the walk over the sections, the last four octets.
 #[tactic(auto, using(crate::proofs::Clear::starts), unfolding(crate::specs::Messages::cut_message))]
-fn cut_frame(message: &[u8]) -> Cut
-    ensures { result ≡ cut_message message.now }
+fn cut_frame(message: &[u8]) -> Result<Fields, Refusal>
+    ensures { told result ≡ cut_message message.now }
 {
-    let refusal = start_refusal(message);
-    if refusal.number != 0 {
-        return refused_with(refusal);
-    }
+    check_start(message)?;
     let end = message.len() - 4;
     let right = octets::u32_at(message, end + 1) == END;
     walk_sections(octets::part_after(message, 0, end), right)
@@ -179,117 +156,97 @@ fn cut_frame(message: &[u8]) -> Cut
 
 // 2, and 22 by the length or by section 0.
 #[tactic(auto, unfolding(crate::specs::Messages::start_refusal, layout::specs::Outcomes::first_refusal))]
-fn start_refusal(message: &[u8]) -> Refusal
+fn check_start(message: &[u8]) -> Result<(), Refusal>
     ensures { result ≡ start_refusal message.now }
 {
     if 65536 < message.len() {
-        return Refusal::of(2, 0);
+        return Err(Refusal::of(2, 0));
     }
     if message.len() < 20 {
-        return Refusal::of(22, 0);
+        return Err(Refusal::of(22, 0));
     }
     if octets::u32_at(message, 1) != START {
-        return Refusal::of(22, 0);
+        return Err(Refusal::of(22, 0));
     }
     if octets::u8_at(message, 8) != 2 {
-        return Refusal::of(22, 0);
+        return Err(Refusal::of(22, 0));
     }
     if octets::u64_at(message, 9) != message.len() as u64 {
-        return Refusal::of(22, 0);
+        return Err(Refusal::of(22, 0));
     }
-    Refusal::none()
+    Ok(())
 }
 
 // From section to section, from octet 17 on. What stands before the last four octets is lent, so that no section can run into them; `right`
-// says whether they are 7777. Every way out hands back `cut` itself, so that it need not be copied.
-fn walk_sections(body: &[u8], right: bool) -> Cut
-    ensures { result ≡ judged right 16 start_walk (cut_of section_step (drop 16 body.now)) }
+// says whether they are 7777.
+fn walk_sections(body: &[u8], right: bool) -> Result<Fields, Refusal>
+    ensures { told result ≡ judged right 16 start_walk (cut_of section_step (drop 16 body.now)) }
 {
     let mut last: u8 = 0;
     let mut force = no_sections();
-    let mut cut = refused_with(Refusal::none());
+    let mut found = no_fields();
     let mut at: usize = 16;
     while at < body.len() {
         let end = cutting::end_after(body, at);
         if end == 0 {
-            cut = refused_with(Refusal::of(23, 0));
-            return cut;
+            return Err(Refusal::of(23, 0));
         }
         let section = cutting::stretch(body, at, end);
-        let refusal = section_refusal(section, last, cut.count);
-        if refusal.number != 0 {
-            cut = refused_with(refusal);
-            return cut;
-        }
+        check_section(section, last, found.count)?;
         last = octets::u8_at(section, 5);
         let length = end - at;
         force = in_force(force, last, Span { before: at, length });
         if last == DATA {
-            cut.fields[cut.count] = force;
-            cut.count += 1;
+            found.fields[found.count] = force;
+            found.count += 1;
         }
         at = end;
     }
-    let refusal = end_refusal(last, right);
-    if refusal.number != 0 {
-        cut = refused_with(refusal);
-        return cut;
-    }
-    cut
+    check_end(last, right)?;
+    Ok(found)
 }
 
 // 23 to 25 at a section which stands behind section `last` and behind `count` fields.
 #[tactic(auto, unfolding(crate::specs::Walk::section_refusal, layout::specs::Outcomes::first_refusal))]
-fn section_refusal(section: &[u8], last: u8, count: usize) -> Refusal
+fn check_section(section: &[u8], last: u8, count: usize) -> Result<(), Refusal>
     ensures { result ≡ section_refusal last count section.now }
 {
     if !may_follow(last, octets::u8_at(section, 5)) {
-        return Refusal::of(23, 0);
+        return Err(Refusal::of(23, 0));
     }
     if other_six(section) {
-        return Refusal::of(24, 0);
+        return Err(Refusal::of(24, 0));
     }
     if 15 < count {
-        return Refusal::of(25, 0);
+        return Err(Refusal::of(25, 0));
     }
-    Refusal::none()
+    Ok(())
 }
 
 // At the last four octets: 23 behind another section than a 7, then 25 where they are not 7777.
 #[tactic(auto, unfolding(crate::specs::Walk::end_refusal, layout::specs::Outcomes::first_refusal))]
-fn end_refusal(last: u8, right: bool) -> Refusal
+fn check_end(last: u8, right: bool) -> Result<(), Refusal>
     ensures { result ≡ end_refusal last right }
 {
     if last != 7 {
-        return Refusal::of(23, 0);
+        return Err(Refusal::of(23, 0));
     }
-    if right {
-        Refusal::none()
-    } else {
-        Refusal::of(25, 0)
+    if !right {
+        return Err(Refusal::of(25, 0));
     }
+    Ok(())
 }
 
 // Whether a section of number `next` may stand behind one of number `last`; before the first there is none, 0.
-#[tactic(auto, unfolding(crate::specs::Walk::may_follow))]
+#[tactic(auto, unfolding(crate::specs::Walk::may_follow, layout::specs::Fields::between))]
 fn may_follow(last: u8, next: u8) -> bool
     ensures { result ≡ may_follow last next }
 {
     match last {
-        7 => within(2, 4, next),
-        1 => within(2, 3, next),
+        7 => (2..=4).contains(&next),
+        1 => (2..=3).contains(&next),
         _ => next as u32 == last as u32 + 1,
     }
-}
-
-#[tactic(auto, unfolding(layout::specs::Fields::between))]
-fn within(low: u8, high: u8, x: u8) -> bool
-    ensures { result ≡ between low high x }
-{
-    if x < low {
-        return false;
-    }
-    x <= high
 }
 
 // A section 6 other than 6 octets with 255.
@@ -297,13 +254,7 @@ fn within(low: u8, high: u8, x: u8) -> bool
 fn other_six(section: &[u8]) -> bool
     ensures { result ≡ other_six section.now }
 {
-    if octets::u8_at(section, 5) != 6 {
-        return false;
-    }
-    if section.len() != 6 {
-        return true;
-    }
-    octets::u8_at(section, 6) != 255
+    octets::u8_at(section, 5) == 6 && !(section.len() == 6 && octets::u8_at(section, 6) == 255)
 }
 
 // The sections in force, with one more: 2 and 6 are passed over.
@@ -326,10 +277,7 @@ fn in_force(sections: Sections, number: u8, span: Span) -> Sections
 fn no_sections() -> Sections
     ensures { result ≡ no_sections }
 {
-    let nowhere = Span {
-        before: 0,
-        length: 0,
-    };
+    let nowhere = Span::after(0, 0);
     Sections {
         one: nowhere,
         three: nowhere,
@@ -339,13 +287,11 @@ fn no_sections() -> Sections
     }
 }
 
-// No fields.
-fn refused_with(refusal: Refusal) -> Cut
-    ensures { result ≡ refused_with refusal }
+fn no_fields() -> Fields
+    ensures { told (Ok result) ≡ start_walk.found }
 {
     let none = no_sections();
-    Cut {
-        refusal,
+    Fields {
         count: 0,
         fields: [none; 16],
     }

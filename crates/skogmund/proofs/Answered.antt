@@ -35,7 +35,7 @@ use Rattle.queue.specs.Queues.{record_step, records_filed, from_start, queue_ref
 use Rattle.queue.specs.Spelled.{FollowsQueue}
 use Rattle.queue.proofs.Spelled.{accepted-exactly-when as exactly-queued}
 use Rattle.report.specs.Texts.{listing}
-use Rattle.message.specs.declared.Cut.{Cut}
+use Rattle.message.specs.Walk.{Cut}
 use Rattle.message.specs.Grammar.{FollowsMessage}
 use Rattle.message.specs.Messages.{field_of, read_message}
 use Rattle.message.proofs.AcceptedExactlyWhen.{accepted-exactly-when as exactly-message}

@@ -4,7 +4,7 @@ use Rattle.std.specs.Prelude.{ℕ, ◌≤◌, Bool, cond, ◌&&◌, List, [], �
 use Rattle.lent.specs.Lent.{Done, done_both, over, if_room}
 use Rattle.lent.specs.Rows.{in_turn}
 use Rattle.message.specs.declared.Sections.{Sections}
-use Rattle.message.specs.declared.Cut.{Cut}
+use Rattle.message.specs.Walk.{Cut}
 use Rattle.message.specs.Messages.{field_of, read_message}
 use Rattle.message.specs.Places.{LowField}
 use Rattle.skogmund.specs.Entries.{code_of, no_room}

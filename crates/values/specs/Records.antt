@@ -1,10 +1,9 @@
 -- The record of a section as numbers: their count and they, in a lent row of 64-bit places.
 -- Assumes nothing.
-use Rattle.std.specs.Prelude.{ℕ, ◌≡◌, List, [], ◌∷◌, ◌++◌, cond, eqb, leb, ℤ, negsuc, length}
+use Rattle.std.specs.Prelude.{ℕ, ◌≡◌, List, [], ◌∷◌, ◌++◌, cond, eqb, leb, ℤ, negsuc, length, Ok, Err}
 use Rattle.lent.specs.Lent.{Done, done, with_count, if_room}
 use Rattle.layout.specs.Fields.{Value, none, missing, is, which}
-use Rattle.layout.specs.Outcomes.{Outcome, refused, read, refusal, no_refusal}
-use Rattle.layout.specs.declared.Refusal.{Refusal}
+use Rattle.layout.specs.Outcomes.{Outcome, refused, read, refusal, Check}
 use Rattle.identification.specs.Section1.{outcome₁}
 use Rattle.grid.specs.Section3.{outcome₃}
 use Rattle.product.specs.Section4.{outcome₄}
@@ -41,9 +40,9 @@ section_outcome section s =
 -- ---- what is answered
 
 -- the section's own refusals, then 18 where there are fewer than 64 places; each leaves the row as it was
-unfoldable pub into_row : Outcome → List ℤ → Done Refusal (List ℤ)
-into_row (refused number section place) row = done (refusal number section place) row
-into_row (read vs) row = if_room no_refusal (refusal 18 0 0) (leb 64 (length row)) (with_count (numbers_in vs) row) row
+unfoldable pub into_row : Outcome → List ℤ → Done Check (List ℤ)
+into_row (refused number section place) row = done (Err (refusal number section place)) row
+into_row (read vs) row = if_room (Ok tt) (Err (refusal 18 0 0)) (leb 64 (length row)) (with_count (numbers_in vs) row) row
 
 -- ---- for the contracts of private functions
 

@@ -5,7 +5,7 @@
 
 ghost use Rattle.std.specs.Prelude.{◌≡◌, [], ◌∷◌, ◌++◌, ◌<◌, ◌≤◌, length};
 ghost use Rattle.std.proofs.lemmas.List.Edits.{sets};
-ghost use Rattle.layout.specs.Outcomes.{refusal_of};
+ghost use Rattle.layout.specs.Outcomes.{check_of};
 ghost use Rattle.layout.specs.Missing.{in32, in_signed};
 ghost use Rattle.identification.specs.Section1.{outcome₁};
 ghost use Rattle.grid.specs.Section3.{outcome₃};
@@ -14,37 +14,34 @@ ghost use Rattle.lent.specs.Lent.{done, with_count};
 ghost use Rattle.values.specs.Records.{section_outcome, into_row, PutsRecord};
 ghost use Rattle.values.specs.Letters.{kind_of, row_number, number_by, numbers_by};
 
-use layout::{I32OrMissing, Refusal, U32OrMissing};
+use layout::Refusal;
 
 // INT64_MIN.
 const MISSING: i64 = -9223372036854775808;
 
-// The record of a section, or its refusal; zeros for none.
-pub fn read_into(section: u8, s: &[u8], values: &mut [i64]) -> Refusal
+// The record of a section into the row, or its refusal.
+pub fn read_into(section: u8, s: &[u8], values: &mut [i64]) -> Result<(), Refusal>
     ensures { done result values.new ≡ into_row (section_outcome section s.now) values.old }
 {
-    let refused = refusal(section, s);
-    if refused.number != 0 {
-        return refused;
-    }
+    check(section, s)?;
     if values.len() < 64 {
-        return Refusal::of(18, 0);
+        return Err(Refusal::of(18, 0));
     }
     put_record(section, s, values);
-    refused
+    Ok(())
 }
 
-// The refusal of a section, or zeros. Section 7 alone knows 1 to 4 only.
-fn refusal(section: u8, s: &[u8]) -> Refusal
-    ensures { result ≡ refusal_of (section_outcome section s.now) }
+// Whether a section is read. Section 7 alone knows 1 to 4 only.
+fn check(section: u8, s: &[u8]) -> Result<(), Refusal>
+    ensures { result ≡ check_of (section_outcome section s.now) }
 {
     match section {
-        1 => identification::refusal_of(identification::read(s)),
-        3 => grid::refusal_of(grid::read(s)),
-        4 => product::refusal_of(product::read(s)),
-        5 => packing::refusal_of(packing::read(s)),
-        7 => layout::head_refusal(s, 7),
-        _ => Refusal::of(4, section),
+        1 => identification::read(s).map(|_| ()),
+        3 => grid::read(s).map(|_| ()),
+        4 => product::read(s).map(|_| ()),
+        5 => packing::read(s).map(|_| ()),
+        7 => layout::check_head(s, 7),
+        _ => Err(Refusal::of(4, section)),
     }
 }
 
@@ -150,14 +147,10 @@ fn put_fields(s: &[u8], letters: &[u8], values: &mut [i64])
     ensures { values.new ≡ sets values.old 1 (numbers_by letters.now 1 s.now) }
 {
     let mut at: usize = 1;
-    let mut i: usize = 0;
-    while i < letters.len() {
-        let letter = letters[i];
-        let found = field_at(s, at, letter);
-        let number = found.0;
-        values[i + 1] = number;
+    for (i, letter) in letters.iter().enumerate() {
+        let found = field_at(s, at, *letter);
+        values[i + 1] = found.0;
         at += found.1;
-        i += 1;
     }
 }
 
@@ -177,29 +170,23 @@ fn field_at(s: &[u8], at: usize, letter: u8) -> Found
         b'4' => Found(octets::u32_at(s, at) as i64, 4),
         b'b' => Found(octets::signed16_at(s, at) as i64, 2),
         b'd' => Found(octets::signed32_at(s, at) as i64, 4),
-        b'A' => Found(signed(layout::signed8_or_missing(s, at)), 1),
-        b'D' => Found(signed(layout::signed32_or_missing(s, at)), 4),
-        b'Q' => Found(unsigned(layout::u8_or_missing(s, at)), 1),
-        b'R' => Found(unsigned(layout::u16_or_missing(s, at)), 2),
-        _ => Found(unsigned(layout::u32_or_missing(s, at)), 4),
+        b'A' => Found(signed(layout::signed_or_missing::<u8>(s, at)), 1),
+        b'D' => Found(signed(layout::signed_or_missing::<u32>(s, at)), 4),
+        b'Q' => Found(unsigned(layout::or_missing::<u8>(s, at)), 1),
+        b'R' => Found(unsigned(layout::or_missing::<u16>(s, at)), 2),
+        _ => Found(unsigned(layout::or_missing::<u32>(s, at)), 4),
     }
 }
 
-fn unsigned(x: U32OrMissing) -> i64
+fn unsigned(x: Option<u32>) -> i64
     ensures { result ≡ row_number (in32 x) }
 {
-    match x {
-        U32OrMissing::Missing => MISSING,
-        U32OrMissing::Is(n) => n as i64,
-    }
+    x.map_or(MISSING, i64::from)
 }
 
 #[tactic(auto, using(octets::proofs::Signs::wide_fits))]
-fn signed(x: I32OrMissing) -> i64
+fn signed(x: Option<i32>) -> i64
     ensures { result ≡ row_number (in_signed x) }
 {
-    match x {
-        I32OrMissing::Missing => MISSING,
-        I32OrMissing::Is(z) => z as i64,
-    }
+    x.map_or(MISSING, i64::from)
 }

@@ -3,7 +3,7 @@
 use Prim.Native.Nat.{ℕ, ◌-◌}
 use mathlib.Core.Path.{refl}
 use mathlib.Core.List.{List}
-use Rattle.message.specs.declared.Cut.{Cut}
+use Rattle.message.specs.Walk.{Cut}
 use Rattle.message.specs.Messages.{field_of}
 use Rattle.skogmund.specs.Messages.{field_spans}
 use Rattle.skogmund.proofs.Spans.{Telling}
