@@ -3,8 +3,9 @@
 use mathlib.Core.Path.{◌≡◌, refl, ap, ◌∙◌}
 use mathlib.Core.List.{List, [], ◌∷◌, ◌++◌}
 use Prim.Native.Nat.{ℕ}
+use lib.ListN.{drop}
 use Rattle.layout.specs.Fields.{Value, shown, width_of, placed, after, bad_place, lowest_bad, values_of, AllAllowed}
-use Rattle.layout.proofs.Blocks.{values-meet, bad-meet}
+use Rattle.layout.proofs.Blocks.{values-meet, values-drop, bad-meet}
 use Rattle.layout.proofs.Allowed.{allowed-apart, allowed-meet}
 use Rattle.layout.proofs.Shown.{values-shown, bad-shown}
 use Rattle.grid.specs.Blocks.{grid_head, earth_size, earth, counts, corners, common, poles}
@@ -19,6 +20,10 @@ module _ (template : Template) (n : ℕ) (s : List ℕ) where
       ∙ ap (λ (l : List Value). values_of (after 0 grid_head) s ++ l)
       (values-meet 14 common (poles template ++ (shown n ∷ [])) s
       ∙ ap (λ (l : List Value). values_of (after 14 common) s ++ l) (values-shown 72 (poles template) n s))
+
+  -- the same of what stands from octet 15 on, as the readers of the template see it
+  pub read_by_block : values_of (after 0 (fields₃ template n)) s ≡ values_of (after 0 grid_head) s ++ (values_of (after 0 common) (drop 14 s) ++ values_of (after 58 (poles template)) (drop 14 s))
+  read_by_block = ?
 
   pub bad-by-block : bad_place (after 0 (fields₃ template n)) s ≡ lowest_bad (after 0 grid_head) s (lowest_bad (after 14 common) s (lowest_bad (after 72 (poles template)) s 0))
   unfolding fields₃ width_of grid_head earth_size earth counts corners common
