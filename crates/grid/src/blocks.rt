@@ -82,7 +82,7 @@ impl Grid {
     pub const END_3_3: usize = 96;
 
     // The record of a section that follows its template.
-    #[tactic(auto, using(crate::proofs::FieldsByBlock::read_by_block), unfolding(layout::specs::Fields::placed, layout::specs::Fields::values_of, crate::specs::Blocks::grid_head, crate::specs::Blocks::values_in))]
+    #[tactic(auto, using(crate::proofs::Reading::values_by_part), unfolding(crate::specs::Blocks::values_in))]
     pub(crate) fn of_section(section: &[u8], template: Template) -> Self
         ensures { values_in result ≡ values₃ template section.now }
     {
