@@ -5,7 +5,8 @@ use mathlib.Core.List.{List, [], ◌∷◌, ◌++◌}
 use Prim.Native.Nat.{ℕ}
 use Rattle.layout.specs.Fields.{Value, shown, width_of, placed, after, values_of, AllAllowed}
 use Rattle.layout.specs.Outcomes.{and_check, all_allowed}
-use Rattle.layout.proofs.Blocks.{values-meet, checked-meet}
+use Rattle.layout.proofs.Blocks.{values-meet}
+use Rattle.layout.proofs.Outcomes.{allowed_meet}
 use Rattle.layout.proofs.Allowed.{allowed-apart, allowed-meet}
 use Rattle.layout.proofs.Shown.{values-shown, checked-shown}
 use Rattle.grid.specs.Blocks.{grid_head, earth_size, earth, counts, corners, common, poles}
@@ -24,9 +25,9 @@ module _ (template : Template) (n : ℕ) (s : List ℕ) where
   pub checked-by-block : all_allowed 3 (after 0 (fields₃ template n)) s ≡ and_check (all_allowed 3 (after 0 grid_head) s) (and_check (all_allowed 3 (after 14 common) s) (all_allowed 3 (after 72 (poles template)) s))
   unfolding fields₃ width_of grid_head earth_size earth counts corners common
   checked-by-block =
-      checked-meet 3 0 grid_head (common ++ (poles template ++ (shown n ∷ []))) s
+      allowed_meet 3 0 grid_head (common ++ (poles template ++ (shown n ∷ []))) s
       ∙ ap (and_check (all_allowed 3 (after 0 grid_head) s))
-      (checked-meet 3 14 common (poles template ++ (shown n ∷ [])) s
+      (allowed_meet 3 14 common (poles template ++ (shown n ∷ [])) s
       ∙ ap (and_check (all_allowed 3 (after 14 common) s)) (checked-shown 3 72 (poles template) n s))
 
   pub allowed-by-block : AllAllowed (after 0 (fields₃ template n)) s → AllAllowed (after 0 grid_head) s × AllAllowed (after 30 counts) s × AllAllowed (after 46 corners) s × AllAllowed (after 72 (poles template)) s

@@ -6,7 +6,8 @@ use Prim.Native.Nat.{ℕ, ◌+◌}
 use Rattle.layout.specs.Fields.{Field, FieldAt, shown, width_of, placed, after, values_of, lowest_bad}
 use Rattle.layout.specs.Shown.{shown_of}
 use Rattle.layout.specs.Outcomes.{Check, and_check, all_allowed}
-use Rattle.layout.proofs.Blocks.{after-append, values-meet, bad-meet, checked-meet}
+use Rattle.layout.proofs.Blocks.{after-append, values-meet, bad-meet}
+use Rattle.layout.proofs.Outcomes.{allowed_meet}
 use Rattle.std.specs.Prelude.{Ok, Err}
 
 shown-append : (a b : List FieldAt) (s : List ℕ) → shown_of (a ++ b) s ≡ shown_of a s ++ shown_of b s
@@ -29,7 +30,7 @@ bad-shown end fs n s later = bad-meet end fs (shown n ∷ []) s later
 
 pub checked-shown : (section end : ℕ) (fs : List Field) (n : ℕ) (s : List ℕ) → all_allowed section (after end (fs ++ (shown n ∷ []))) s ≡ all_allowed section (after end fs) s
 unfolding all_allowed and_check placed
-checked-shown section end fs n s = checked-meet section end fs (shown n ∷ []) s ∙ none-more (all_allowed section (after end fs) s)
+checked-shown section end fs n s = allowed_meet section end fs (shown n ∷ []) s ∙ none-more (all_allowed section (after end fs) s)
   where
     none-more : (c : Check) → and_check c (Ok tt) ≡ c
     none-more (Err x) = refl

@@ -1,23 +1,19 @@
 -- Any two answers that the contracts of `read`, `read_data` and `unpack` allow are one answer, and so are the rows.
 -- Assumes nothing.
 use Prim.Native.Nat.{ℕ}
-use mathlib.Core.Path.{◌≡◌, refl, ap, sym, ◌∙◌}
+use mathlib.Core.Path.{◌≡◌, refl, sym, ◌∙◌}
 use mathlib.Core.List.{List}
 use lib.ListN.{get_or}
 use Rattle.layout.specs.Fields.{Value, none, whole_in, natural_in}
-use Rattle.layout.specs.Outcomes.{Outcome}
+use Rattle.layout.specs.Outcomes.{Outcome, told}
 use Rattle.layout.proofs.Untold.{told_back, one_answer}
-use Rattle.packing.specs.Section5.{told₅, values_in₅, outcome₅}
-use Rattle.packing.specs.Section7.{told₇, values_in₇, outcome₇}
-use Rattle.packing.specs.Unpacking.{told_unpacked, Unpacks}
+use Rattle.packing.specs.Section5.{values_in₅, outcome₅}
+use Rattle.packing.specs.Section7.{values_in₇, outcome₇}
+use Rattle.packing.specs.Unpacking.{written_in, Unpacks}
 use Rattle.packing.specs.declared.Packing.{Packing}
-use Rattle.packing.specs.declared.Answer.{Answer}
-use Rattle.packing.specs.declared.Answer.TheVariants.{Read as Read₅, Refused as Refused₅}
 use Rattle.packing.specs.declared.DataSection.{DataSection}
-use Rattle.packing.specs.declared.DataAnswer.{DataAnswer}
-use Rattle.packing.specs.declared.DataAnswer.TheVariants.{Read as Read₇, Refused as Refused₇}
-use Rattle.packing.specs.declared.Unpacked.{Unpacked}
-use Rattle.packing.specs.declared.Unpacked.TheVariants.{Written, Refused}
+use Rattle.layout.specs.declared.Refusal.{Refusal}
+use Rattle.std.specs.Prelude.{Result}
 
 -- ---- section 5
 
@@ -45,9 +41,8 @@ pub same-record₅ : (x y : Packing) → values_in₅ x ≡ values_in₅ y → x
 same-record₅ = told_back values_in₅ to_packing packing-back
 
 -- and two answers that say the same are one answer
-pub determined₅ : (s : List ℕ) (a b : Answer) → told₅ a ≡ outcome₅ s → told₅ b ≡ outcome₅ s → a ≡ b
-unfolding told₅
-determined₅ s = one_answer told₅ Refused₅ Read₅ to_packing (elim [ Refused₅ x ↦ refl | Read₅ x ↦ ap Read₅ (packing-back x) ]) (outcome₅ s)
+pub determined₅ : (s : List ℕ) (a b : Result Packing Refusal) → told values_in₅ a ≡ outcome₅ s → told values_in₅ b ≡ outcome₅ s → a ≡ b
+determined₅ s = one_answer values_in₅ to_packing packing-back (outcome₅ s)
 
 -- ---- section 7
 
@@ -55,16 +50,18 @@ determined₅ s = one_answer told₅ Refused₅ Read₅ to_packing (elim [ Refus
 abbrev to_data : List Value → DataSection
 to_data vs = record { length = natural_in (get_or vs 0 none); number = natural_in (get_or vs 1 none) }
 
-pub determined₇ : (n bits : ℕ) (s : List ℕ) (a b : DataAnswer) → told₇ a ≡ outcome₇ n bits s → told₇ b ≡ outcome₇ n bits s → a ≡ b
-unfolding told₇ values_in₇
-determined₇ n bits s = one_answer told₇ Refused₇ Read₇ to_data (elim [ Refused₇ x ↦ refl | Read₇ x ↦ refl ]) (outcome₇ n bits s)
+data-back : (x : DataSection) → to_data (values_in₇ x) ≡ x
+unfolding values_in₇
+data-back x = refl
+
+pub determined₇ : (n bits : ℕ) (s : List ℕ) (a b : Result DataSection Refusal) → told values_in₇ a ≡ outcome₇ n bits s → told values_in₇ b ≡ outcome₇ n bits s → a ≡ b
+determined₇ n bits s = one_answer values_in₇ to_data data-back (outcome₇ n bits s)
 
 -- ---- unpacking
 
 -- two answers that say the same are one answer
-same_answer : (o : Outcome) (a b : Unpacked) → told_unpacked a ≡ o → told_unpacked b ≡ o → a ≡ b
-unfolding told_unpacked
-same_answer = one_answer told_unpacked Refused Written (λ vs. natural_in (get_or vs 0 none)) (elim [ Refused x ↦ refl | Written n ↦ refl ])
+same_answer : (o : Outcome) (a b : Result ℕ Refusal) → told written_in a ≡ o → told written_in b ≡ o → a ≡ b
+same_answer = one_answer written_in (λ vs. natural_in (get_or vs 0 none)) (λ n. refl)
 
-pub determined : (five seven row : List ℕ) (a b : Unpacked) (after later : List ℕ) → Unpacks five seven row a after → Unpacks five seven row b later → (a ≡ b) × (after ≡ later)
+pub determined : (five seven row : List ℕ) (a b : Result ℕ Refusal) (after later : List ℕ) → Unpacks five seven row a after → Unpacks five seven row b later → (a ≡ b) × (after ≡ later)
 determined five seven row a b after later p q = (same_answer _ a b p.answers q.answers, p.leaves ∙ sym q.leaves)

@@ -1,4 +1,5 @@
 pub mod AcceptedExactlyWhen
+pub mod ByChecks
 pub mod FieldsCoverOnce
 pub mod AnswersDetermined
 pub mod StarredPacking

@@ -9,16 +9,15 @@ use lib.ListN.{length, drop}
 use lib.Dec.{eqb}
 use Rattle.octets.specs.Octets.{be_at}
 use Rattle.layout.specs.Fields.{placed, after, bad_place}
+use Rattle.layout.specs.Outcomes.{told}
 use Rattle.layout.specs.Refusals.{Listed}
 use Rattle.layout.specs.declared.Refusal.{Refusal}
 use Rattle.layout.proofs.Refusals.{Refuses, refusal-listed, refuses-wider, then-refuses, reason-refuses, head-refuses, opening-refuses, template-refuses, stand_within, bad-within}
-use Rattle.packing.specs.Section5.{fields₅, told₅, outcome₅, as_simple, values_at, bits_at}
-use Rattle.packing.specs.Section7.{told₇, outcome₇}
-use Rattle.packing.specs.Unpacking.{told_unpacked, unpack_outcome}
+use Rattle.packing.specs.Section5.{fields₅, values_in₅, outcome₅, as_simple, values_at, bits_at}
+use Rattle.packing.specs.Section7.{values_in₇, outcome₇}
+use Rattle.packing.specs.Unpacking.{written_in, unpack_outcome}
 use Rattle.packing.specs.Refused.{table₅, table₇, unpack_table}
-use Rattle.packing.specs.declared.Answer.TheVariants.{Refused as Refused₅}
-use Rattle.packing.specs.declared.DataAnswer.TheVariants.{Refused as Refused₇}
-use Rattle.packing.specs.declared.Unpacked.TheVariants.{Refused as refused_unpacking}
+use Rattle.std.specs.Prelude.{Err}
 
 -- the fields with a rule stand within the total
 pub within₅ : stand_within 21 (placed 0 5 (drop 1 fields₅)) ≡ true
@@ -49,14 +48,11 @@ unpack-refuses five seven row =
     (refuses-wider unpack_table table₇ (outcome₇ (values_at five) (bits_at five) seven) refl (refuses₇ (values_at five) (bits_at five) seven))
     (reason-refuses unpack_table 0 18 (not (eqb (length row) (values_at five))) _ refl refl tt))
 
-pub packing-refuses : (s : List ℕ) (x : Refusal) → told₅ (Refused₅ x) ≡ outcome₅ s → Listed table₅ x
-unfolding told₅
+pub packing-refuses : (s : List ℕ) (x : Refusal) → told values_in₅ (Err x) ≡ outcome₅ s → Listed table₅ x
 packing-refuses s x e = refusal-listed table₅ (outcome₅ s) x (refuses₅ s) e
 
-pub data-refuses : (n bits : ℕ) (s : List ℕ) (x : Refusal) → told₇ (Refused₇ x) ≡ outcome₇ n bits s → Listed table₇ x
-unfolding told₇
+pub data-refuses : (n bits : ℕ) (s : List ℕ) (x : Refusal) → told values_in₇ (Err x) ≡ outcome₇ n bits s → Listed table₇ x
 data-refuses n bits s x e = refusal-listed table₇ (outcome₇ n bits s) x (refuses₇ n bits s) e
 
-pub unpacking-refuses : (five seven row : List ℕ) (x : Refusal) → told_unpacked (refused_unpacking x) ≡ unpack_outcome five seven row → Listed unpack_table x
-unfolding told_unpacked
+pub unpacking-refuses : (five seven row : List ℕ) (x : Refusal) → told written_in (Err x) ≡ unpack_outcome five seven row → Listed unpack_table x
 unpacking-refuses five seven row x e = refusal-listed unpack_table (unpack_outcome five seven row) x (unpack-refuses five seven row) e

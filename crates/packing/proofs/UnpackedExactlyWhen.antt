@@ -15,8 +15,8 @@ use Rattle.unpacking.specs.Packed.{bit_at, bits_from, packed_at, unpacked}
 use Rattle.packing.specs.Section5.{outcome₅, values_at, bits_at}
 use Rattle.packing.specs.Section7.{outcome₇}
 use Rattle.packing.specs.Accepted.{Follows₅, Follows₇}
-use Rattle.packing.specs.Unpacking.{unpack_outcome, row_by, row_after, told_unpacked, Unpacks}
-use Rattle.packing.specs.declared.Unpacked.TheVariants.{Written}
+use Rattle.packing.specs.Unpacking.{unpack_outcome, row_by, row_after, Unpacks}
+use Rattle.std.specs.Prelude.{Ok}
 use Rattle.packing.proofs.AcceptedExactlyWhen.{accepted-follows₅, follows-accepted₅, accepted-follows₇, follows-accepted₇}
 use Rattle.unpacking.proofs.SpareBits.{spare}
 
@@ -53,9 +53,9 @@ module _ (five seven row : List ℕ) where
   unpacked-exactly-when = ((λ a. (unpacked-fits a.0 a.1).0), (λ f. (plain (values_at five) ∷ [], fits-unpacked f)))
 
   -- what is answered and left where it is written
-  pub written : (n : ℕ) (later : List ℕ) → Unpacks five seven row (Written n) later
+  pub written : (n : ℕ) (later : List ℕ) → Unpacks five seven row (Ok n) later
       → (n ≡ values_at five) × Follows₅ five × Follows₇ (values_at five) (bits_at five) seven × (length row ≡ values_at five) × (later ≡ unpacked (bits_at five) (values_at five) (drop 5 seven))
-  unfolding row_after told_unpacked
+  unfolding row_after
   written n later u =
       let whole = sym u.answers in
       let f = unpacked-fits (plain n ∷ []) whole in
@@ -65,7 +65,7 @@ module _ (five seven row : List ℕ) where
 -- ---- of the row that is left
 
 -- two sections 7 whose first N x bits bits are the same, from octet 6 on: spare bits are not looked at
-pub spare-ignored : (five seven seven' row row' later later' : List ℕ) (n n' : ℕ) → Unpacks five seven row (Written n) later → Unpacks five seven' row' (Written n') later'
+pub spare-ignored : (five seven seven' row row' later later' : List ℕ) (n n' : ℕ) → Unpacks five seven row (Ok n) later → Unpacks five seven' row' (Ok n') later'
     → ((k : ℕ) → k < values_at five * bits_at five → bit_at (drop 5 seven) k ≡ bit_at (drop 5 seven') k) → later ≡ later'
 spare-ignored five seven seven' row row' later later' n n' u u' h =
     (written five seven row n later u).4
@@ -78,7 +78,7 @@ unfolding each_from packed_at bits_from
 no_bits xs i zero = refl
 no_bits xs i (suc n) = ap (λ (l : List ℕ). 0 ∷ l) (no_bits xs (suc i) n)
 
-pub width-0-zeros : (five seven row later : List ℕ) (n : ℕ) → Unpacks five seven row (Written n) later → bits_at five ≡ 0 → later ≡ replicate (values_at five) 0
+pub width-0-zeros : (five seven row later : List ℕ) (n : ℕ) → Unpacks five seven row (Ok n) later → bits_at five ≡ 0 → later ≡ replicate (values_at five) 0
 unfolding unpacked
 width-0-zeros five seven row later n u e =
     (written five seven row n later u).4

@@ -1,20 +1,24 @@
 -- What each way out of `unpack` comes to, over plain lists.
 -- Assumes nothing.
 use Prim.Native.Nat.{ℕ, ◌≤◌}
-use mathlib.Core.Path.{◌≡◌, ap, sym}
+use mathlib.Core.Path.{◌≡◌, ap, sym, ◌∙◌}
 use mathlib.Core.List.{List}
 use lib.ListN.{length, get_or, drop}
 use borrow.Author.Tests.{eq-eqb, ne_eqb}
 use Rattle.layout.specs.Fields.{Value, none, placed, values_of, natural_in}
-use Rattle.layout.specs.Outcomes.{read, refused_by, first_of, and_then, refusal}
+use Rattle.layout.specs.Outcomes.{read, refused_by, told, first_of, and_then, refusal}
 use Rattle.layout.specs.declared.Refusal.{Refusal}
 use Rattle.unpacking.specs.Packed.{unpacked}
 use Rattle.packing.specs.Section5.{fields₅, values_at, bits_at, outcome₅, values_in₅}
-use Rattle.packing.specs.Section7.{outcome₇}
-use Rattle.packing.specs.Unpacking.{unpack_outcome, row_after, told_unpacked, Unpacks}
+use Rattle.packing.specs.Section7.{outcome₇, values_in₇}
+use Rattle.packing.specs.Unpacking.{unpack_outcome, row_after, Unpacks}
 use Rattle.packing.specs.declared.Packing.{Packing}
-use Rattle.packing.specs.declared.Unpacked.TheVariants.{Written, Refused}
-use Rattle.packing.proofs.AcceptedExactlyWhen.{accepted-follows₅}
+use Rattle.std.specs.Prelude.{Ok, Err}
+use Rattle.packing.specs.declared.DataSection.{DataSection}
+use Rattle.packing.proofs.AcceptedExactlyWhen.{accepted-follows₅, accepted-follows₇}
+use native.Mathlib.Omega.{arith}
+use Rattle.unpacking.specs.Filled.{filled}
+use Rattle.unpacking.proofs.Filled.{narrow}
 
 -- what a caller needs of a record that was read
 pub record Known (five : List ℕ) (x : Packing) : Type 0 where
@@ -31,26 +35,35 @@ known five x e =
 
 module _ (five seven row : List ℕ) where
   -- a refusal is handed on, and the row stays
-  handed : (x : Refusal) → unpack_outcome five seven row ≡ refused_by x → Unpacks five seven row (Refused x) row
-  unfolding told_unpacked row_after
+  handed : (x : Refusal) → unpack_outcome five seven row ≡ refused_by x → Unpacks five seven row (Err x) row
+  unfolding row_after
   handed x e = record { answers = sym e; leaves = rw e }
 
-  pub five-refused : (x : Refusal) → outcome₅ five ≡ refused_by x → Unpacks five seven row (Refused x) row
+  pub five_refused : (x : Refusal) → told values_in₅ (Err x) ≡ outcome₅ five → Unpacks five seven row (Err x) row
   unfolding unpack_outcome and_then
-  five-refused x e = handed x (rw e)
+  five_refused x e = handed x (rw (← e))
 
-  module _ (vs : List Value) (e : outcome₅ five ≡ read vs) where
-    pub seven-refused : (x : Refusal) → outcome₇ (values_at five) (bits_at five) seven ≡ refused_by x → Unpacks five seven row (Refused x) row
+  module _ (packing : Packing) (e : told values_in₅ (Ok packing) ≡ outcome₅ five) where
+    -- what a caller needs of it
+    five-known : Known five packing
+    five-known = known five packing (sym e)
+
+    pub seven_refused : (x : Refusal) → told values_in₇ (Err x) ≡ outcome₇ packing.values packing.bits seven → Unpacks five seven row (Err x) row
     unfolding unpack_outcome and_then
-    seven-refused x f = handed x (rw (e, f))
+    seven_refused x f = let k = five-known in handed x (rw (← e, ← k.values, ← k.bits, ← f))
 
-    module _ (ws : List Value) (f : outcome₇ (values_at five) (bits_at five) seven ≡ read ws) where
-      pub row-refused : (length row ≡ values_at five → ⊥) → Unpacks five seven row (Refused (refusal 18 0 0)) row
+    module _ («data» : DataSection) (f : told values_in₇ (Ok «data») ≡ outcome₇ packing.values packing.bits seven) where
+      pub five_there : 5 ≤ length seven
+      five_there = omega (arith, (accepted-follows₇ _ _ _ _ (sym f)).0.whole)
+
+      pub row_refused : (length row ≡ packing.values → ⊥) → Unpacks five seven row (Err (refusal 18 0 0)) row
       unfolding unpack_outcome and_then first_of
-      row-refused h = handed (refusal 18 0 0) (rw (e, f, ne_eqb _ _ h))
+      row_refused h = let k = five-known in handed (refusal 18 0 0) (rw (← e, ← k.values, ← k.bits, ← f, ne_eqb _ _ h))
 
       -- otherwise the row holds the numbers
-      pub all-written : (n : ℕ) (later : List ℕ) → length row ≡ values_at five → n ≡ values_at five → later ≡ unpacked (bits_at five) (values_at five) (drop 5 seven) → Unpacks five seven row (Written n) later
-      unfolding told_unpacked row_after unpack_outcome and_then first_of
-      all-written n later l k w =
-          record { answers = rw (e, f, eq-eqb _ _ l, k); leaves = rw (e, f, eq-eqb _ _ l) w }
+      pub all_written : (later : List ℕ) → length row ≡ packing.values → later ≡ filled packing.bits (drop 5 seven) row → Unpacks five seven row (Ok packing.values) later
+      unfolding row_after unpack_outcome and_then first_of
+      all_written later l w =
+          let k = five-known in
+          let numbers : later ≡ unpacked packing.bits packing.values (drop 5 seven) = w ∙ narrow _ _ row k.narrow ∙ ap (λ (n : ℕ). unpacked packing.bits n (drop 5 seven)) l in
+          record { answers = rw (← e, ← k.values, ← k.bits, ← f, eq-eqb _ _ l); leaves = rw (← e, ← k.values, ← k.bits, ← f, eq-eqb _ _ l) numbers }

@@ -1,13 +1,10 @@
--- Section 5, as document 01 has it: its fields, its outcome, and what a program's answer says.
+-- Section 5, as document 01 has it: its fields, its outcome, and what a program's record says.
 -- Assumes nothing.
 use Rattle.std.specs.Prelude.{ℕ, List, [], ◌∷◌, not, eqb}
 use Rattle.octets.specs.Octets.{be_at}
 use Rattle.layout.specs.Fields.{Value, is, plain, Field, raw, raw_signed, ranged, after, bad_place, values_of}
-use Rattle.layout.specs.Outcomes.{Outcome, read, refused_by, reason, first_of, opening_reasons, template_reasons, no_refusal}
-use Rattle.layout.specs.declared.Refusal.{Refusal}
+use Rattle.layout.specs.Outcomes.{Outcome, read, reason, first_of, opening_reasons, template_reasons}
 use Rattle.packing.specs.declared.Packing.{Packing}
-use Rattle.packing.specs.declared.Answer.{Answer}
-use Rattle.packing.specs.declared.Answer.TheVariants.{Read, Refused}
 
 -- length, number, number of values N, template, R as bits, E, D, bits per value, type
 unfoldable pub fields₅ : List Field
@@ -28,7 +25,7 @@ as_simple s = first_of 5 (template_reasons 21 (bad_place (after 0 fields₅) s) 
 unfoldable pub outcome₅ : List ℕ → Outcome
 outcome₅ s = first_of 5 (opening_reasons 5 11 s) (first_of 5 (reason 6 (not (eqb (be_at s 10 2) 0)) ∷ []) (as_simple s))
 
--- ---- what a program's answer says
+-- ---- what a program's record says
 
 unfoldable pub values_in₅ : Packing → List Value
 values_in₅ x =
@@ -42,12 +39,3 @@ values_in₅ x =
     ∷ plain x.bits
     ∷ plain x.value_type
     ∷ []
-
-unfoldable pub told₅ : Answer → Outcome
-told₅ (Read x) = read (values_in₅ x)
-told₅ (Refused x) = refused_by x
-
--- the refusal of an answer that is one; of none, zeros
-abbrev pub refusal_in₅ : Answer → Refusal
-refusal_in₅ (Refused x) = x
-refusal_in₅ (Read x) = no_refusal

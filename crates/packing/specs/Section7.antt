@@ -3,11 +3,8 @@
 use Rattle.std.specs.Prelude.{ℕ, ◌+◌, ◌*◌, ◌/◌, List, [], ◌∷◌, not, length, eqb}
 use Rattle.octets.specs.Octets.{be_at}
 use Rattle.layout.specs.Fields.{Value, plain, Field, raw, shown, after, values_of}
-use Rattle.layout.specs.Outcomes.{Outcome, read, refused_by, Reason, reason, first_of, head_reasons, no_refusal}
-use Rattle.layout.specs.declared.Refusal.{Refusal}
+use Rattle.layout.specs.Outcomes.{Outcome, read, Reason, reason, first_of, head_reasons}
 use Rattle.packing.specs.declared.DataSection.{DataSection}
-use Rattle.packing.specs.declared.DataAnswer.{DataAnswer}
-use Rattle.packing.specs.declared.DataAnswer.TheVariants.{Read, Refused}
 
 -- N x bits / 8, rounded up
 abbrev pub packed_octets : ℕ → ℕ → ℕ
@@ -36,16 +33,7 @@ unfoldable pub outcome₇ : ℕ → ℕ → List ℕ → Outcome
 outcome₇ n bits s =
     first_of 7 (head_reasons 7 s) (first_of 7 (reasons₇ n bits s) (read (values_of (after 0 (fields₇ n bits)) s)))
 
--- ---- what a program's answer says
+-- ---- what a program's record says
 
 unfoldable pub values_in₇ : DataSection → List Value
 values_in₇ x = plain x.length ∷ plain x.number ∷ []
-
-unfoldable pub told₇ : DataAnswer → Outcome
-told₇ (Read x) = read (values_in₇ x)
-told₇ (Refused x) = refused_by x
-
--- the refusal of an answer that is one; of none, zeros
-abbrev pub refusal_in₇ : DataAnswer → Refusal
-refusal_in₇ (Refused x) = x
-refusal_in₇ (Read x) = no_refusal

@@ -1,13 +1,12 @@
 -- Unpacking sections 5 and 7 into a lent row: the answer, and the row afterwards.
 -- Assumes nothing.
-use Rattle.std.specs.Prelude.{ℕ, List, [], ◌∷◌, ◌≡◌, not, length, drop, eqb}
-use Rattle.layout.specs.Fields.{plain}
-use Rattle.layout.specs.Outcomes.{Outcome, refused, read, refused_by, reason, first_of, and_then}
+use Rattle.std.specs.Prelude.{ℕ, List, [], ◌∷◌, ◌≡◌, not, length, drop, eqb, Result}
+use Rattle.layout.specs.Fields.{Value, plain}
+use Rattle.layout.specs.Outcomes.{Outcome, refused, read, told, reason, first_of, and_then}
+use Rattle.layout.specs.declared.Refusal.{Refusal}
 use Rattle.unpacking.specs.Packed.{unpacked}
 use Rattle.packing.specs.Section5.{outcome₅, values_at, bits_at}
 use Rattle.packing.specs.Section7.{outcome₇}
-use Rattle.packing.specs.declared.Unpacked.{Unpacked}
-use Rattle.packing.specs.declared.Unpacked.TheVariants.{Written, Refused}
 
 -- the refusals of section 5, then of section 7, then 18 where the row has not exactly N places; otherwise N
 unfoldable pub unpack_outcome : List ℕ → List ℕ → List ℕ → Outcome
@@ -27,11 +26,11 @@ row_after five seven row =
 
 -- ---- what a program's answer says
 
-unfoldable pub told_unpacked : Unpacked → Outcome
-told_unpacked (Written n) = read (plain n ∷ [])
-told_unpacked (Refused x) = refused_by x
+-- how many numbers were written
+abbrev pub written_in : ℕ → List Value
+written_in n = plain n ∷ []
 
 -- the whole promise of `unpack`
-pub record Unpacks (five seven row : List ℕ) (answer : Unpacked) (later : List ℕ) : Type 0 where
-  pub answers : told_unpacked answer ≡ unpack_outcome five seven row
+pub record Unpacks (five seven row : List ℕ) (answer : Result ℕ Refusal) (later : List ℕ) : Type 0 where
+  pub answers : told written_in answer ≡ unpack_outcome five seven row
   pub leaves : later ≡ row_after five seven row

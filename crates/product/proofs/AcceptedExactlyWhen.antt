@@ -18,13 +18,13 @@ use Rattle.layout.proofs.Blocks.{bad-clear, bad-none, clear-bad, none-bad}
 use Rattle.layout.proofs.Outcomes.{Headed, Fits, opening-read, opening-last, template-read, template-last}
 use Rattle.layout.proofs.Ranges.{between_in, in_between, test-differs, differs-test, test-unmet}
 use Rattle.product.specs.Blocks.{process, forecast, scaled, surface, common, interval}
-use Rattle.product.specs.Templates.{template_of, front_end, part_end, ranges_end, total, ranges_at, members_at, coordinates_at, lack_of_ranges, fields_in, total_in, values₄}
+use Rattle.product.specs.Templates.{listed, template_of, front_end, part_end, ranges_end, total, ranges_at, members_at, coordinates_at, lack_of_ranges, fields_in, total_in, values₄}
 use Rattle.product.specs.Section4.{as_template, by_template, outcome₄}
 use Rattle.product.specs.Table.{CountAt, no_count, at_octet, TemplateRow, templates₄, is_timed}
 use Rattle.product.specs.Accepted.{EndKept, IntervalKept, Follows₄}
 use Rattle.product.specs.declared.templates.PartKind.{PartKind}
 use Rattle.product.specs.declared.templates.Template.{Template}
-use Rattle.product.specs.declared.templates.Template.TheVariants.{NotListed, Listed}
+use Rattle.std.specs.Prelude.{Option, None}
 use Rattle.product.proofs.FieldsByBlock.{bad-is, part-enough}
 use Rattle.product.proofs.TableAgrees.{table-listed, table-process, table-count, table-total, listed-or-not}
 
@@ -106,7 +106,7 @@ module _ (s : List ℕ) (vs : List Value) where
   by_row row m names head e =
       let kind = row.part in
       let timed = is_timed row in
-      let by = ap (λ (t : Template). by_template t s) (sym (ap template_of names ∙ table-listed row m)) ∙ e in
+      let by = ap (λ (t : Option Template). by_template t s) (sym (ap template_of names ∙ table-listed row m)) ∙ e in
       let fits = template-read 4 s (read (values₄ kind timed s)) _ _ _ _ vs by in
       let bad = sym (bad-is kind timed (ranges_at kind timed s) (members_at kind s) (coordinates_at s) s) ∙ fits.0.in-range in
       let fine = bad-clear (front_end kind) 1 common s _ (omega arith) bad in (
@@ -125,7 +125,7 @@ module _ (s : List ℕ) (vs : List Value) where
       )
 
   -- a number that no row has is not accepted
-  by-none : (template : Template) → template ≡ NotListed → by_template template s ≡ read vs → ⊥
+  by-none : (template : Option Template) → template ≡ None → by_template template s ≡ read vs → ⊥
   unfolding by_template
   by-none template n e = let z : ◌≡◌ {A = ℕ} 0 1 = cc in omega arith
 
@@ -148,7 +148,7 @@ long-enough kind false n nc nv h = (omega arith, omega (arith, part-enough kind)
 
 module _ (row : TemplateRow) (s : List ℕ) (f : Follows₄ row s) where
   -- the outcome reads it by the row's part, and with time ranges where the row has them
-  pub follows-listed : template_of (be_at s 8 2) ≡ Listed row.part (is_timed row)
+  pub follows-listed : template_of (be_at s 8 2) ≡ listed row.part (is_timed row)
   follows-listed = ap template_of f.names ∙ table-listed row f.listed
 
   pub follows-total : length s ≡ total_in row.part (is_timed row) s
@@ -171,7 +171,7 @@ module _ (row : TemplateRow) (s : List ℕ) (f : Follows₄ row s) where
       let headed : Headed 4 s = record { long = omega arith; small = f.small; says-length = f.says-length; says-number = f.says-number } in
       let fits : Fits (total kind timed 1 0 0) (bad_place (after 0 (fields_in kind timed s)) s) (lack_of_ranges timed (ranges_at kind timed s)) (total_in kind timed s) s = record { enough = omega arith; in-range = bad; own-kept = rw kept.1; whole = l } in
       opening-last 4 s _ 9 headed (omega arith)
-      ∙ ap (λ (t : Template). by_template t s) follows-listed
+      ∙ ap (λ (t : Option Template). by_template t s) follows-listed
       ∙ template-last 4 s (read (values₄ kind timed s)) _ _ _ _ fits
 
 pub accepted-exactly-when : (s : List ℕ) → ((vs : List Value) × (outcome₄ s ≡ read vs)) ↔ ((row : TemplateRow) × Follows₄ row s)

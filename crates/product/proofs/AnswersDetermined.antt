@@ -9,17 +9,17 @@ use Rattle.layout.specs.Fields.{Value, none, missing, is, which, whole_in, natur
 use Rattle.layout.specs.Time.{time_in}
 use Rattle.layout.proofs.Untold.{to32, back32, to_signed, back_signed, to_time, told_back, one_answer}
 use Rattle.product.specs.Blocks.{parameter_in, process_in, forecast_in, scaled_in, surface_in, ensemble_in, cluster_in, probability_in, aerosol_in, end_in, interval_in, tag_in, ahead_in, behind_in, values_in}
-use Rattle.product.specs.Section4.{told, outcome₄}
+use Rattle.product.specs.Section4.{outcome₄}
 use Rattle.product.specs.declared.blocks.Process.{Process}
 use Rattle.product.specs.declared.blocks.Scaled.{Scaled}
 use Rattle.product.specs.declared.blocks.Surface.{Surface}
 use Rattle.product.specs.declared.blocks.Part.{Part}
 use Rattle.product.specs.declared.blocks.Part.TheVariants.{None as part_none, Ensemble as is_ensemble, Cluster as is_cluster, Probability as is_probability, Aerosol as is_aerosol}
-use Rattle.product.specs.declared.blocks.Interval.{Interval}
-use Rattle.product.specs.declared.blocks.Interval.TheVariants.{None as no_interval, Ends}
+use Rattle.product.specs.declared.blocks.IntervalEnd.{IntervalEnd}
 use Rattle.product.specs.declared.blocks.Product.{Product}
-use Rattle.product.specs.declared.Answer.{Answer}
-use Rattle.product.specs.declared.Answer.TheVariants.{Read, Refused}
+use Rattle.layout.specs.Outcomes.{told}
+use Rattle.layout.specs.declared.Refusal.{Refusal}
+use Rattle.std.specs.Prelude.{Option, Some, None, Result}
 
 -- ---- blocks, from the values at the front of a list
 
@@ -39,15 +39,15 @@ to_scaled vs = record { factor = to_signed (get_or vs 0 none); value = to_signed
 unfoldable pub to_surface : List Value → Surface
 to_surface vs = record { kind = natural_in (get_or vs 0 none); level = to_scaled (drop 1 vs) }
 
-unfoldable pub to_interval : List Value → Interval
+unfoldable pub to_interval : List Value → Option IntervalEnd
 to_interval vs = by (get_or vs 0 none)
   where
-    by : Value → Interval
-    by none = no_interval
-    by missing = no_interval
-    by (which n) = no_interval
+    by : Value → Option IntervalEnd
+    by none = None
+    by missing = None
+    by (which n) = None
     by (is year) =
-        Ends
+        Some
         (record {
           year = nat_abs year;
           time = to_time vs 1;
@@ -55,10 +55,10 @@ to_interval vs = by (get_or vs 0 none)
           missing_count = natural_in (get_or vs 7 none);
         })
 
-interval-back : (x : Interval) → to_interval (interval_in x) ≡ x
+interval-back : (x : Option IntervalEnd) → to_interval (interval_in x) ≡ x
 unfolding to_interval interval_in end_in time_in
-interval-back no_interval = refl
-interval-back (Ends x) = refl
+interval-back None = refl
+interval-back (Some x) = refl
 
 -- ---- the part that a tag names, from the values ahead of the generating process and behind the surfaces
 
@@ -162,6 +162,5 @@ pub same-record : (x y : Product) → values_in x ≡ values_in y → x ≡ y
 same-record = told_back values_in to_product product-back
 
 -- and two answers that say the same are one answer
-pub determined : (s : List ℕ) (a b : Answer) → told a ≡ outcome₄ s → told b ≡ outcome₄ s → a ≡ b
-unfolding told
-determined s = one_answer told Refused Read to_product (elim [ Refused x ↦ refl | Read x ↦ ap Read (product-back x) ]) (outcome₄ s)
+pub determined : (s : List ℕ) (a b : Result Product Refusal) → told values_in a ≡ outcome₄ s → told values_in b ≡ outcome₄ s → a ≡ b
+determined s = one_answer values_in to_product product-back (outcome₄ s)

@@ -6,8 +6,11 @@ use native.Mathlib.Omega.{arith}
 use mathlib.Core.Path.{◌≡◌, refl, ◌∙◌}
 use mathlib.Core.List.{List, [], ◌∷◌, ◌++◌}
 use mathlib.Core.Bool.{Bool, true, false, cond}
-use Rattle.octets.specs.Octets.{part}
-use Rattle.layout.specs.Fields.{Value, none, which, width_of, placed, after, lowest_bad, bad_place, values_of}
+use Rattle.octets.specs.Octets.{part, be_at}
+use Rattle.layout.specs.Fields.{Value, none, which, plain, width_of, placed, after, not_ones, lowest_bad, bad_place, values_of}
+use Rattle.layout.specs.Outcomes.{and_check, if_allowed, all_allowed}
+use Rattle.layout.proofs.Outcomes.{and_passed, allowed_meet}
+use Rattle.std.specs.Prelude.{Ok}
 use Rattle.layout.specs.Shown.{shown_of}
 use Rattle.layout.specs.Time.{time}
 use Rattle.layout.proofs.Blocks.{width-append, values-meet, bad-meet, moved}
@@ -20,29 +23,29 @@ use Rattle.product.specs.declared.templates.PartKind.TheVariants.{None as no_par
 -- ---- what goes by the kind of part: a line for each
 
 -- up to which octet the blocks before the generating process go; nothing in them is ever out of range, and nothing is shown
-front-facts : (kind : PartKind) → (width_of (front kind) ≡ front_end kind) × ((s : List ℕ) (later : ℕ) → lowest_bad (after 0 (front kind)) s later ≡ later) × ((s : List ℕ) → shown_of (after 0 (front kind)) s ≡ [])
-unfolding width_of lowest_bad shown_of placed front head parameter ahead aerosol scaled
-front-facts no_part = (refl, λ s later. refl, λ s. refl)
-front-facts Ensemble = (refl, λ s later. refl, λ s. refl)
-front-facts Cluster = (refl, λ s later. refl, λ s. refl)
-front-facts Probability = (refl, λ s later. refl, λ s. refl)
-front-facts Aerosol = (refl, λ s later. refl, λ s. refl)
+front-facts : (kind : PartKind) → (width_of (front kind) ≡ front_end kind) × ((s : List ℕ) (later : ℕ) → lowest_bad (after 0 (front kind)) s later ≡ later) × ((s : List ℕ) → shown_of (after 0 (front kind)) s ≡ []) × ((s : List ℕ) → all_allowed 4 (after 0 (front kind)) s ≡ Ok tt)
+unfolding width_of lowest_bad shown_of all_allowed and_check placed front head parameter ahead aerosol scaled
+front-facts no_part = (refl, λ s later. refl, λ s. refl, λ s. refl)
+front-facts Ensemble = (refl, λ s later. refl, λ s. refl, λ s. refl)
+front-facts Cluster = (refl, λ s later. refl, λ s. refl, λ s. refl)
+front-facts Probability = (refl, λ s later. refl, λ s. refl, λ s. refl)
+front-facts Aerosol = (refl, λ s later. refl, λ s. refl, λ s. refl)
 
 -- the same of what follows the surfaces
-behind-facts : (kind : PartKind) → ((front_end kind + 23) + width_of (behind kind) ≡ part_end kind) × ((end : ℕ) (s : List ℕ) (later : ℕ) → lowest_bad (after end (behind kind)) s later ≡ later) × ((end : ℕ) (s : List ℕ) → shown_of (after end (behind kind)) s ≡ [])
-unfolding width_of lowest_bad shown_of placed behind ensemble cluster probability scaled
-behind-facts no_part = (refl, λ end s later. refl, λ end s. refl)
-behind-facts Ensemble = (refl, λ end s later. refl, λ end s. refl)
-behind-facts Cluster = (refl, λ end s later. refl, λ end s. refl)
-behind-facts Probability = (refl, λ end s later. refl, λ end s. refl)
-behind-facts Aerosol = (refl, λ end s later. refl, λ end s. refl)
+behind-facts : (kind : PartKind) → ((front_end kind + 23) + width_of (behind kind) ≡ part_end kind) × ((end : ℕ) (s : List ℕ) (later : ℕ) → lowest_bad (after end (behind kind)) s later ≡ later) × ((end : ℕ) (s : List ℕ) → shown_of (after end (behind kind)) s ≡ []) × ((end : ℕ) (s : List ℕ) → all_allowed 4 (after end (behind kind)) s ≡ Ok tt)
+unfolding width_of lowest_bad shown_of all_allowed and_check placed behind ensemble cluster probability scaled
+behind-facts no_part = (refl, λ end s later. refl, λ end s. refl, λ end s. refl)
+behind-facts Ensemble = (refl, λ end s later. refl, λ end s. refl, λ end s. refl)
+behind-facts Cluster = (refl, λ end s later. refl, λ end s. refl, λ end s. refl)
+behind-facts Probability = (refl, λ end s later. refl, λ end s. refl, λ end s. refl)
+behind-facts Aerosol = (refl, λ end s later. refl, λ end s. refl, λ end s. refl)
 
-pub front-small : (kind : PartKind) → front_end kind ≤ 24
-front-small no_part = omega arith
-front-small Ensemble = omega arith
-front-small Cluster = omega arith
-front-small Probability = omega arith
-front-small Aerosol = omega arith
+pub front_small : (kind : PartKind) → front_end kind ≤ 24
+front_small no_part = omega arith
+front_small Ensemble = omega arith
+front_small Cluster = omega arith
+front_small Probability = omega arith
+front_small Aerosol = omega arith
 
 pub part-enough : (kind : PartKind) → 23 ≤ part_end kind
 part-enough kind = omega (arith, (behind-facts kind).0)
@@ -72,6 +75,15 @@ unfolding lowest_bad placed time_ranges lists interval time
 tail-bad true end n nc nv s = refl
 tail-bad false end n nc nv s = refl
 
+common-allowed : (end : ℕ) (s : List ℕ) → all_allowed 4 (after end common) s ≡ if_allowed 4 (end + 8) (not_ones 4 (be_at s (end + 8) 4))
+unfolding all_allowed and_check placed common process forecast surface scaled
+common-allowed end s = and_passed _
+
+tail-allowed : (timed : Bool) (end n nc nv : ℕ) (s : List ℕ) → all_allowed 4 (after end (time_ranges timed n ++ lists nc nv)) s ≡ cond timed (all_allowed 4 (after end interval) s) (Ok tt)
+unfolding all_allowed and_check placed time_ranges lists interval time
+tail-allowed true end n nc nv s = refl
+tail-allowed false end n nc nv s = refl
+
 -- the ranges, the members and the coordinates, each after the octet at which the one before it ends
 tail-shows : (kind : PartKind) (timed : Bool) (n nc nv : ℕ) (s : List ℕ) → shown_of (after (part_end kind) (time_ranges timed n ++ lists nc nv)) s ≡ cond timed (part s (part_end kind + 12 + 1) (12 * n)) [] ∷ part s (ranges_end kind timed n + 1) nc ∷ part s (ranges_end kind timed n + nc + 1) (4 * nv) ∷ []
 unfolding shown_of placed time_ranges lists interval time ranges_end part
@@ -93,9 +105,9 @@ common-values end s p f x y =
     λ i. p i ++ ((f ∙ moved end 6 forecast s) i ++ ((x ∙ moved end 11 surface s) i ++ (y ∙ moved end 17 surface s) i))
 
 -- two numbers with scale factors, as limits and sizes are: 3 octets after the start of their part
-pub both-scaled : (end : ℕ) (s : List ℕ) {xs ys : List Value} → xs ≡ values_of (after (end + 3) scaled) s → ys ≡ values_of (after (end + 8) scaled) s → xs ++ ys ≡ values_of (placed end 4 (scaled ++ scaled)) s
+pub both_scaled : (end : ℕ) (s : List ℕ) {xs ys : List Value} → xs ≡ values_of (after (end + 3) scaled) s → ys ≡ values_of (after (end + 8) scaled) s → xs ++ ys ≡ values_of (placed end 4 (scaled ++ scaled)) s
 unfolding values_of placed scaled
-both-scaled end s p q = λ i. (p ∙ moved end 3 scaled s) i ++ (q ∙ moved end 8 scaled s) i
+both_scaled end s p q = λ i. (p ∙ moved end 3 scaled s) i ++ (q ∙ moved end 8 scaled s) i
 
 -- ---- every template
 
@@ -119,6 +131,14 @@ module _ (kind : PartKind) (timed : Bool) (n nc nv : ℕ) where
       (rw (bad-meet (front_end kind) common, common-width)
       (rw (bad-meet (front_end kind + 23) (behind kind), (behind-facts kind).0, (behind-facts kind).1, tail-bad)))
 
+  -- so these are checked, the forecast time first
+  pub allowed_is : (s : List ℕ) → all_allowed 4 (after 0 (fields₄ kind timed n nc nv)) s ≡ and_check (if_allowed 4 (front_end kind + 8) (not_ones 4 (be_at s (front_end kind + 8) 4))) (cond timed (all_allowed 4 (after (part_end kind) interval) s) (Ok tt))
+  unfolding fields₄ and_check
+  allowed_is s =
+      rw (allowed_meet 4 0 (front kind), zero-add (width_of (front kind)), (front-facts kind).0, (front-facts kind).3 s)
+      (rw (allowed_meet 4 (front_end kind) common, common-width, common-allowed)
+      (rw (allowed_meet 4 (front_end kind + 23) (behind kind), (behind-facts kind).0, (behind-facts kind).3, tail-allowed)))
+
   after_front : (s : List ℕ) → values_of (after 0 (fields₄ kind timed n nc nv)) s ≡ values_of (after 0 (front kind)) s ++ (values_of (after (front_end kind) common) s ++ (values_of (after (front_end kind + 23) (behind kind)) s ++ cond timed (values_of (after (part_end kind) interval) s) (none ∷ [])))
   unfolding fields₄
   after_front s =
@@ -130,6 +150,20 @@ module _ (kind : PartKind) (timed : Bool) (n nc nv : ℕ) where
   pub values-are : (s : List ℕ) → values_of (after 0 (fields₄ kind timed n nc nv)) s ≡ values_of (after 0 head) s ++ (which (part_tag kind) ∷ (values_of (after 9 parameter) s ++ (values_of (after 11 (ahead kind)) s ++ (values_of (after (front_end kind) common) s ++ (values_of (after (front_end kind + 23) (behind kind)) s ++ cond timed (values_of (after (part_end kind) interval) s) (none ∷ []))))))
   unfolding values_of placed head parameter
   values-are s = rw (after_front s, front-values kind s)
+
+  -- field by field up to the part's tag, and block by block behind it
+  pub section4_values : (s : List ℕ) → values_of (after 0 (fields₄ kind timed n nc nv)) s ≡ plain (be_at s 1 4)
+      ∷ plain (be_at s 5 1)
+      ∷ plain (be_at s 6 2)
+      ∷ plain (be_at s 8 2)
+      ∷ which (part_tag kind)
+      ∷ (values_of (after 9 parameter) s
+      ++ (values_of (after 11 (ahead kind)) s
+      ++ ((values_of (after (front_end kind) process) s ++ (values_of (after (front_end kind + 6) forecast) s ++ (values_of (after (front_end kind + 11) surface) s ++ values_of (after (front_end kind + 17) surface) s)))
+      ++ (values_of (after (front_end kind + 23) (behind kind)) s
+      ++ cond timed (values_of (after (part_end kind) interval) s) (none ∷ [])))))
+  unfolding values_of placed head
+  section4_values s = rw (values-are s, common-values (front_end kind) s refl refl refl refl)
 
   -- what a caller is shown
   pub shown-are : (s : List ℕ) → shown_of (after 0 (fields₄ kind timed n nc nv)) s ≡ cond timed (part s (part_end kind + 12 + 1) (12 * n)) [] ∷ part s (ranges_end kind timed n + 1) nc ∷ part s (ranges_end kind timed n + nc + 1) (4 * nv) ∷ []

@@ -1,4 +1,5 @@
 pub mod FieldsByBlock
+pub mod ByChecks
 pub mod TableAgrees
 pub mod StarredProducts
 pub mod FieldsCoverOnce

@@ -21,6 +21,7 @@ use Rattle.product.specs.Accepted.{Follows₄}
 use Rattle.product.specs.declared.templates.PartKind.{PartKind}
 use Rattle.product.specs.declared.templates.PartKind.TheVariants.{None as no_part, Ensemble, Cluster, Probability, Aerosol}
 use Rattle.product.specs.declared.templates.Template.{Template}
+use Rattle.std.specs.Prelude.{Option}
 use Rattle.product.proofs.TableAgrees.{table-listed, table-total}
 use Rattle.product.proofs.FieldsByBlock.{part-enough}
 use Rattle.product.proofs.RefusalNumbers.{within₄}
@@ -69,7 +70,7 @@ module _ (s t : List ℕ) (r : Resized s t) where
       let kind = row.part in
       let timed = is_timed row in
       let head = opening-read 4 s _ 9 _ (follows-accepted row s f) in
-      let by = ap (λ (x : Template). by_template x s) (sym (follows-listed row s f)) ∙ head.2 in
+      let by = ap (λ (x : Option Template). by_template x s) (sym (follows-listed row s f)) ∙ head.2 in
       let fits = template-read 4 s _ _ _ _ _ _ by in
       let least = smallest₄ kind timed in
       let same = number_same s t r 9 (omega (arith, least, fits.0.enough)) (omega (arith, least)) in
@@ -78,7 +79,7 @@ module _ (s t : List ℕ) (r : Resized s t) where
       let coordinates = same 6 2 (omega arith) (omega arith) in
       let behind =
       opening-last 4 t _ 9 (resized-headed 4 s t r head.0 (omega (arith, least)) small) (omega (arith, least))
-      ∙ ap (λ (x : Template). by_template x t) (ap template_of (same 8 2 (omega arith) (omega arith)) ∙ follows-listed row s f)
+      ∙ ap (λ (x : Option Template). by_template x t) (ap template_of (same 8 2 (omega arith) (omega arith)) ∙ follows-listed row s f)
       in
       subst (ByTotal 4 (length s) t) (sym behind)
       (rw (ranges, members, coordinates)

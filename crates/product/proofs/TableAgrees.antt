@@ -11,11 +11,11 @@ use mathlib.Core.Bool.{Bool, true, false, cond}
 use lib.Dec.{eqb}
 use borrow.Author.Tests.{eqb-true}
 use Rattle.octets.specs.Octets.{be_at}
-use Rattle.product.specs.Templates.{template_of, front_end, part_end, ranges_end, total, ranges_at, members_at, total_in}
+use Rattle.product.specs.Templates.{listed, template_of, front_end, part_end, ranges_end, total, ranges_at, members_at, total_in}
 use Rattle.product.specs.Table.{no_count, at_octet, TemplateRow, templates₄, count_in, is_timed}
 use Rattle.product.specs.declared.templates.PartKind.{PartKind}
 use Rattle.product.specs.declared.templates.Template.{Template}
-use Rattle.product.specs.declared.templates.Template.TheVariants.{NotListed, Listed}
+use Rattle.std.specs.Prelude.{Option, None}
 
 -- ---- facts of every row
 
@@ -35,9 +35,9 @@ ends-after kind false s = omega arith
 
 module _ (row : TemplateRow) (m : Memᴰ row templates₄) where
   -- the outcome reads it with the part and the time ranges that the table has
-  pub table-listed : template_of row.number ≡ Listed row.part (is_timed row)
+  pub table-listed : template_of row.number ≡ listed row.part (is_timed row)
   unfolding template_of
-  table-listed = each_row (λ r. template_of r.number) (λ r. Listed r.part (is_timed r)) templates₄ refl row m
+  table-listed = each_row (λ r. template_of r.number) (λ r. listed r.part (is_timed r)) templates₄ refl row m
 
   -- where the generating process follows, and so where the forecast time stands
   pub table-process : front_end row.part ≡ 11 + row.moved
@@ -71,28 +71,28 @@ module _ (row : TemplateRow) (m : Memᴰ row templates₄) where
 -- ---- which numbers are listed
 
 -- what a table has for a number: the first row that has it
-abbrev in_table : ℕ → List TemplateRow → Template
-in_table number [] = NotListed
-in_table number (r ∷ rows) = cond (eqb number r.number) (Listed r.part (is_timed r)) (in_table number rows)
+abbrev in_table : ℕ → List TemplateRow → Option Template
+in_table number [] = None
+in_table number (r ∷ rows) = cond (eqb number r.number) (listed r.part (is_timed r)) (in_table number rows)
 
 -- a row of the table that has it
 abbrev RowOf : ℕ → List TemplateRow → Type 0
 RowOf number rows = (row : TemplateRow) × Memᴰ row rows × (number ≡ row.number)
 
-found : (number : ℕ) (rows : List TemplateRow) → (in_table number rows ≡ NotListed) ⊎ RowOf number rows
+found : (number : ℕ) (rows : List TemplateRow) → (in_table number rows ≡ None) ⊎ RowOf number rows
 found number [] = inl refl
 found number (r ∷ rows) = by-test (eqb number r.number) refl (found number rows)
   where
-    by-test : (t : Bool) → eqb number r.number ≡ t → (in_table number rows ≡ NotListed) ⊎ RowOf number rows → (cond t (Listed r.part (is_timed r)) (in_table number rows) ≡ NotListed) ⊎ RowOf number (r ∷ rows)
+    by-test : (t : Bool) → eqb number r.number ≡ t → (in_table number rows ≡ None) ⊎ RowOf number rows → (cond t (listed r.part (is_timed r)) (in_table number rows) ≡ None) ⊎ RowOf number (r ∷ rows)
     by-test true e rest = inr (r, Memᴰ.head refl, eqb-true _ _ e)
     by-test false e (inl none) = inl none
     by-test false e (inr one) = inr (one.0, Memᴰ.tail one.1, one.2)
 
 -- a number is not listed, or it is a row's
-pub listed-or-not : (number : ℕ) → (template_of number ≡ NotListed) ⊎ RowOf number templates₄
+pub listed-or-not : (number : ℕ) → (template_of number ≡ None) ⊎ RowOf number templates₄
 unfolding template_of
 listed-or-not number = found number templates₄
 
 -- no other number is listed
-pub table-only : (number : ℕ) → ((row : TemplateRow) → Memᴰ row templates₄ → number ≡ row.number → ⊥) → template_of number ≡ NotListed
+pub table-only : (number : ℕ) → ((row : TemplateRow) → Memᴰ row templates₄ → number ≡ row.number → ⊥) → template_of number ≡ None
 table-only number no_row = ⊎_elim (λ e. e) (λ one. absurd (no_row one.0 one.1 one.2)) (listed-or-not number)

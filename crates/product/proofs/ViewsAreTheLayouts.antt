@@ -18,30 +18,30 @@ use Rattle.layout.specs.Spans.{nowhere, span_after, octets_in, Within}
 use Rattle.layout.specs.declared.Span.{Span}
 use Rattle.layout.proofs.Outcomes.{of-both}
 use Rattle.layout.proofs.Spans.{octets-after, after-within}
-use Rattle.product.specs.Templates.{template_of, part_end, ranges_end, total, ranges_at, members_at, coordinates_at, fields_in, total_in}
+use Rattle.product.specs.Templates.{listed, template_of, part_end, ranges_end, total, ranges_at, members_at, coordinates_at, fields_in, total_in}
 use Rattle.product.specs.Section4.{outcome₄}
 use Rattle.product.specs.Views.{template_read, range_by, members_by, coordinates_by, range_span, member_span, coordinate_span, range_of, members_of, coordinates_of, first_strung}
 use Rattle.product.specs.Table.{no_count, at_octet, TemplateRow, count_in, is_timed}
 use Rattle.product.specs.Accepted.{Follows₄}
 use Rattle.product.specs.declared.templates.PartKind.{PartKind}
 use Rattle.product.specs.declared.templates.Template.{Template}
-use Rattle.product.specs.declared.templates.Template.TheVariants.{NotListed, Listed}
+use Rattle.std.specs.Prelude.{Option, None}
 use Rattle.product.proofs.FieldsByBlock.{shown-are}
 use Rattle.product.proofs.TableAgrees.{table-count, table-ranges, table-members, table-end}
 use Rattle.product.proofs.AcceptedExactlyWhen.{accepted-follows, follows-listed, follows-accepted, follows-total}
 
 -- ---- a section that is read
 
-template-is : (row : TemplateRow) (s : List ℕ) → Follows₄ row s → template_read s ≡ Listed row.part (is_timed row)
+template-is : (row : TemplateRow) (s : List ℕ) → Follows₄ row s → template_read s ≡ listed row.part (is_timed row)
 unfolding if_read
 template-is row s f = rw (follows-accepted row s f) (follows-listed row s f)
 
 -- by a template, the k-th time range
-abbrev range_shown : Template → List ℕ → ℕ → List ℕ
+abbrev range_shown : Option Template → List ℕ → ℕ → List ℕ
 range_shown template s k = octets_in (range_by template s k) s
 
 -- the first m time ranges, of 12 octets each, strung together
-ranges-strung : (kind : PartKind) (s : List ℕ) → part_end kind + 12 + 12 * ranges_at kind true s ≤ length s → (m : ℕ) → m ≤ ranges_at kind true s → part s (part_end kind + 12 + 1) (12 * m) ≡ first_strung (range_shown (Listed kind true) s) m
+ranges-strung : (kind : PartKind) (s : List ℕ) → part_end kind + 12 + 12 * ranges_at kind true s ≤ length s → (m : ℕ) → m ≤ ranges_at kind true s → part s (part_end kind + 12 + 1) (12 * m) ≡ first_strung (range_shown (listed kind true) s) m
 unfolding first_strung part range_by
 ranges-strung kind s room zero h = refl
 ranges-strung kind s room (suc m) h =
@@ -49,15 +49,15 @@ ranges-strung kind s room (suc m) h =
     let next : part_end kind + 12 + 1 + 12 * m ≡ part_end kind + 12 + 12 * m + 1 = omega arith in
     rw (one_more, part-add, next, part-take s (part_end kind + 12 + 12 * m) 12 (omega arith), lt-ltb m (ranges_at kind true s) (omega arith), ranges-strung kind s room m (omega arith))
 
-ranges-by : (kind : PartKind) (timed : Bool) (s : List ℕ) → length s ≡ total_in kind timed s → cond timed (part s (part_end kind + 12 + 1) (12 * ranges_at kind timed s)) [] ≡ first_strung (range_shown (Listed kind timed) s) (ranges_at kind timed s)
+ranges-by : (kind : PartKind) (timed : Bool) (s : List ℕ) → length s ≡ total_in kind timed s → cond timed (part s (part_end kind + 12 + 1) (12 * ranges_at kind timed s)) [] ≡ first_strung (range_shown (listed kind timed) s) (ranges_at kind timed s)
 unfolding total ranges_end ranges_at first_strung
 ranges-by kind true s l = ranges-strung kind s (omega arith) (ranges_at kind true s) (omega arith)
 ranges-by kind false s l = refl
 
 -- the members and the coordinates
 lists-by : (kind : PartKind) (timed : Bool) (s : List ℕ) → length s ≡ total_in kind timed s
-    → (part s (ranges_end kind timed (ranges_at kind timed s) + 1) (members_at kind s) ≡ octets_in (members_by (Listed kind timed) s) s)
-    × (part s (ranges_end kind timed (ranges_at kind timed s) + members_at kind s + 1) (4 * coordinates_at s) ≡ octets_in (coordinates_by (Listed kind timed) s) s)
+    → (part s (ranges_end kind timed (ranges_at kind timed s) + 1) (members_at kind s) ≡ octets_in (members_by (listed kind timed) s) s)
+    × (part s (ranges_end kind timed (ranges_at kind timed s) + members_at kind s + 1) (4 * coordinates_at s) ≡ octets_in (coordinates_by (listed kind timed) s) s)
 unfolding total members_by coordinates_by
 lists-by kind timed s l =
     let end = ranges_end kind timed (ranges_at kind timed s) in (
@@ -66,7 +66,7 @@ lists-by kind timed s l =
           ∙ sym (octets-after (end + members_at kind s) (4 * coordinates_at s) s),
     )
 
-views-by : (kind : PartKind) (timed : Bool) (s : List ℕ) → length s ≡ total_in kind timed s → shown_of (after 0 (fields_in kind timed s)) s ≡ first_strung (range_shown (Listed kind timed) s) (ranges_at kind timed s) ∷ octets_in (members_by (Listed kind timed) s) s ∷ octets_in (coordinates_by (Listed kind timed) s) s ∷ []
+views-by : (kind : PartKind) (timed : Bool) (s : List ℕ) → length s ≡ total_in kind timed s → shown_of (after 0 (fields_in kind timed s)) s ≡ first_strung (range_shown (listed kind timed) s) (ranges_at kind timed s) ∷ octets_in (members_by (listed kind timed) s) s ∷ octets_in (coordinates_by (listed kind timed) s) s ∷ []
 views-by kind timed s l =
     let lists = lists-by kind timed s l in
     rw (shown-are, ranges-by kind timed s l, lists.0, lists.1)
@@ -75,14 +75,14 @@ views-by kind timed s l =
 pub views-shown : (row : TemplateRow) (s : List ℕ) → Follows₄ row s → shown_of (after 0 (fields_in row.part (is_timed row) s)) s ≡ first_strung (range_of s) (count_in row.ranges s) ∷ members_of s ∷ coordinates_of s ∷ []
 views-shown row s f =
     views-by row.part (is_timed row) s (follows-total row s f)
-    ∙ ap (λ (n : ℕ). shown_by (Listed row.part (is_timed row)) n) (table-ranges row f.listed s)
-    ∙ ap (λ (t : Template). shown_by t (count_in row.ranges s)) (sym (template-is row s f))
+    ∙ ap (λ (n : ℕ). shown_by (listed row.part (is_timed row)) n) (table-ranges row f.listed s)
+    ∙ ap (λ (t : Option Template). shown_by t (count_in row.ranges s)) (sym (template-is row s f))
   where
-    shown_by : Template → ℕ → List (List ℕ)
+    shown_by : Option Template → ℕ → List (List ℕ)
     shown_by t n = first_strung (range_shown t s) n ∷ octets_in (members_by t s) s ∷ octets_in (coordinates_by t s) s ∷ []
 
 -- each time range is whole
-range-whole-by : (kind : PartKind) (timed : Bool) (s : List ℕ) → length s ≡ total_in kind timed s → (k : ℕ) → k < ranges_at kind timed s → length (range_shown (Listed kind timed) s k) ≡ 12
+range-whole-by : (kind : PartKind) (timed : Bool) (s : List ℕ) → length s ≡ total_in kind timed s → (k : ℕ) → k < ranges_at kind timed s → length (range_shown (listed kind timed) s k) ≡ 12
 unfolding range_by total ranges_end ranges_at
 range-whole-by kind true s l k h = rw (lt-ltb k (ranges_at kind true s) h) (simp (length-take, length-drop) (omega arith))
 range-whole-by kind false s l k h = absurd (omega arith)
@@ -95,16 +95,16 @@ range-whole row s f k h =
 -- ---- where a list is said to stand, the section has its octets
 
 -- it has to be shown of a listed template only, and of a section with its total
-within_by : (by : Template → Span) (s : List ℕ) → by NotListed ≡ nowhere → ((kind : PartKind) (timed : Bool) → length s ≡ total_in kind timed s → Within (by (Listed kind timed)) s) → Within (by (template_read s)) s
+within_by : (by : Option Template → Span) (s : List ℕ) → by None ≡ nowhere → ((kind : PartKind) (timed : Bool) → length s ≡ total_in kind timed s → Within (by (listed kind timed)) s) → Within (by (template_read s)) s
 within_by by s none some =
-    of-both (λ (t : Template). Within (by t) s) (outcome₄ s) (template_of (be_at s 8 2)) NotListed (rw none (omega arith))
+    of-both (λ (t : Option Template). Within (by t) s) (outcome₄ s) (template_of (be_at s 8 2)) None (rw none (omega arith))
     (λ vs e.
     let f = accepted-follows s vs e in
     rw (follows-listed f.0 s f.1) (some f.0.part (is_timed f.0) (follows-total f.0 s f.1)))
 
 pub range-within : (s : List ℕ) (k : ℕ) → Within (range_span s k) s
 unfolding range_by total ranges_end ranges_at
-range-within s k = within_by (λ (t : Template). range_by t s k) s refl (λ kind timed l. by-test kind timed l (ltb k (ranges_at kind timed s)) refl)
+range-within s k = within_by (λ (t : Option Template). range_by t s k) s refl (λ kind timed l. by-test kind timed l (ltb k (ranges_at kind timed s)) refl)
   where
     room : (kind : PartKind) (timed : Bool) → length s ≡ total_in kind timed s → k < ranges_at kind timed s → part_end kind + 12 + 12 * k + 12 ≤ length s
     room kind true l h = omega arith
@@ -116,15 +116,15 @@ range-within s k = within_by (λ (t : Template). range_by t s k) s refl (λ kind
 
 pub members-within : (s : List ℕ) → Within (member_span s) s
 unfolding members_by total
-members-within s = within_by (λ (t : Template). members_by t s) s refl (λ kind timed l. after-within (ranges_end kind timed (ranges_at kind timed s)) (members_at kind s) s (omega arith))
+members-within s = within_by (λ (t : Option Template). members_by t s) s refl (λ kind timed l. after-within (ranges_end kind timed (ranges_at kind timed s)) (members_at kind s) s (omega arith))
 
 pub coordinates-within : (s : List ℕ) → Within (coordinate_span s) s
 unfolding coordinates_by total
-coordinates-within s = within_by (λ (t : Template). coordinates_by t s) s refl (λ kind timed l. after-within (ranges_end kind timed (ranges_at kind timed s) + members_at kind s) (4 * coordinates_at s) s (omega arith))
+coordinates-within s = within_by (λ (t : Option Template). coordinates_by t s) s refl (λ kind timed l. after-within (ranges_end kind timed (ranges_at kind timed s) + members_at kind s) (4 * coordinates_at s) s (omega arith))
 
 -- ---- where they stand, by octet numbers
 
-range_at : (kind : PartKind) (timed : Bool) (s : List ℕ) → length s ≡ total_in kind timed s → (p : ℕ) → cond timed (at_octet (part_end kind + 8)) no_count ≡ at_octet p → (k : ℕ) → k < be_at s p 1 → range_shown (Listed kind timed) s k ≡ part s (p + 5 + 12 * k) 12
+range_at : (kind : PartKind) (timed : Bool) (s : List ℕ) → length s ≡ total_in kind timed s → (p : ℕ) → cond timed (at_octet (part_end kind + 8)) no_count ≡ at_octet p → (k : ℕ) → k < be_at s p 1 → range_shown (listed kind timed) s k ≡ part s (p + 5 + 12 * k) 12
 unfolding range_by total ranges_end ranges_at
 range_at kind true s l p e k h =
     let counted : part_end kind + 8 ≡ p = cc in

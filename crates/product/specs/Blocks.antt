@@ -1,7 +1,7 @@
 -- The blocks that section 4's templates are made of: fields that stand together, wherever they start, and beside each what a
 -- program's block says; at last the record.
 -- Assumes nothing.
-use Rattle.std.specs.Prelude.{ℕ, List, [], ◌∷◌, ◌++◌}
+use Rattle.std.specs.Prelude.{ℕ, List, [], ◌∷◌, ◌++◌, Option, Some, None}
 use Rattle.layout.specs.Fields.{Value, none, is, which, plain, Field, raw, present, signed_present, optional, optional_signed}
 use Rattle.layout.specs.Missing.{in32, in_signed}
 use Rattle.layout.specs.Time.{time, time_in}
@@ -15,8 +15,6 @@ use Rattle.product.specs.declared.blocks.ClusterPart.{ClusterPart}
 use Rattle.product.specs.declared.blocks.ProbabilityPart.{ProbabilityPart}
 use Rattle.product.specs.declared.blocks.AerosolPart.{AerosolPart}
 use Rattle.product.specs.declared.blocks.IntervalEnd.{IntervalEnd}
-use Rattle.product.specs.declared.blocks.Interval.{Interval}
-use Rattle.product.specs.declared.blocks.Interval.TheVariants.{None as no_interval, Ends}
 use Rattle.product.specs.declared.blocks.Part.{Part}
 use Rattle.product.specs.declared.blocks.Part.TheVariants.{None as part_none, Ensemble as is_ensemble, Cluster as is_cluster, Probability as is_probability, Aerosol as is_aerosol}
 use Rattle.product.specs.declared.blocks.Product.{Product}
@@ -147,9 +145,9 @@ interval = present 2 ∷ (time ++ (raw 1 ∷ raw 4 ∷ []))
 unfoldable pub end_in : IntervalEnd → List Value
 end_in x = plain x.year ∷ (time_in x.time ++ (plain x.n ∷ plain x.missing_count ∷ []))
 
-unfoldable pub interval_in : Interval → List Value
-interval_in no_interval = none ∷ []
-interval_in (Ends x) = end_in x
+unfoldable pub interval_in : Option IntervalEnd → List Value
+interval_in None = none ∷ []
+interval_in (Some x) = end_in x
 
 -- ---- the record
 

@@ -1,6 +1,6 @@
 -- What is read out of a section 4, by name and octet: each field of the record is the meaning of its octets.
 -- Assumes nothing.
-use Rattle.std.specs.Prelude.{ℕ, ◌+◌, ◌-◌, ◌≡◌, List}
+use Rattle.std.specs.Prelude.{ℕ, ◌+◌, ◌-◌, ◌≡◌, List, Option, Some, None}
 use Rattle.octets.specs.Octets.{be_at, sign_of}
 use Rattle.layout.specs.Missing.{unless_missing, signed_unless_missing}
 use Rattle.layout.specs.Time.{MeansTime}
@@ -14,8 +14,6 @@ use Rattle.product.specs.declared.blocks.ClusterPart.{ClusterPart}
 use Rattle.product.specs.declared.blocks.ProbabilityPart.{ProbabilityPart}
 use Rattle.product.specs.declared.blocks.AerosolPart.{AerosolPart}
 use Rattle.product.specs.declared.blocks.IntervalEnd.{IntervalEnd}
-use Rattle.product.specs.declared.blocks.Interval.{Interval}
-use Rattle.product.specs.declared.blocks.Interval.TheVariants.{None as no_interval, Ends}
 use Rattle.product.specs.declared.blocks.Part.{Part}
 use Rattle.product.specs.declared.blocks.Part.TheVariants.{None as part_none, Ensemble as is_ensemble, Cluster as is_cluster, Probability as is_probability, Aerosol as is_aerosol}
 use Rattle.product.specs.declared.blocks.Product.{Product}
@@ -85,9 +83,9 @@ pub record MeansEnd (x : IntervalEnd) (p : ℕ) (s : List ℕ) : Type 0 where
   pub missing-count : x.missing_count ≡ be_at s (p + 1) 4
 
 -- there is one exactly where the template has time ranges
-pub data MeansInterval (s : List ℕ) : CountAt → Interval → Type 0 where
-  point : MeansInterval s no_count no_interval
-  ends : (p : ℕ) (x : IntervalEnd) → MeansEnd x p s → MeansInterval s (at_octet p) (Ends x)
+pub data MeansInterval (s : List ℕ) : CountAt → Option IntervalEnd → Type 0 where
+  point : MeansInterval s no_count None
+  ends : (p : ℕ) (x : IntervalEnd) → MeansEnd x p s → MeansInterval s (at_octet p) (Some x)
 
 -- ---- the record
 

@@ -1,17 +1,12 @@
--- Section 4, as document 01 has it: its outcome, and what a program's answer says.
+-- Section 4, as document 01 has it: its outcome.
 -- Assumes nothing.
-use Rattle.std.specs.Prelude.{ℕ, List, Bool}
+use Rattle.std.specs.Prelude.{ℕ, List, Bool, Option, Some, None}
 use Rattle.octets.specs.Octets.{be_at}
 use Rattle.layout.specs.Fields.{after, bad_place}
-use Rattle.layout.specs.Outcomes.{Outcome, refused, read, refused_by, first_of, opening_reasons, template_reasons, no_refusal}
-use Rattle.layout.specs.declared.Refusal.{Refusal}
-use Rattle.product.specs.Blocks.{values_in}
+use Rattle.layout.specs.Outcomes.{Outcome, refused, read, first_of, opening_reasons, template_reasons}
 use Rattle.product.specs.Templates.{template_of, total, ranges_at, lack_of_ranges, fields_in, total_in, values₄}
 use Rattle.product.specs.declared.templates.PartKind.{PartKind}
 use Rattle.product.specs.declared.templates.Template.{Template}
-use Rattle.product.specs.declared.templates.Template.TheVariants.{NotListed, Listed}
-use Rattle.product.specs.declared.Answer.{Answer}
-use Rattle.product.specs.declared.Answer.TheVariants.{Read, Refused}
 
 -- 7, 8, 9 and the total's 11 and 21, once the template is known; the smallest total has n = 1, no member and no coordinate
 unfoldable pub as_template : PartKind → Bool → List ℕ → Outcome
@@ -20,21 +15,10 @@ as_template kind timed s =
     (read (values₄ kind timed s))
 
 -- 6: the template is not listed
-unfoldable pub by_template : Template → List ℕ → Outcome
-by_template NotListed s = refused 6 4 0
-by_template (Listed kind timed) s = as_template kind timed s
+unfoldable pub by_template : Option Template → List ℕ → Outcome
+by_template None s = refused 6 4 0
+by_template (Some t) s = as_template t.kind t.timed s
 
 -- 5: under 9 octets
 unfoldable pub outcome₄ : List ℕ → Outcome
 outcome₄ s = first_of 4 (opening_reasons 4 9 s) (by_template (template_of (be_at s 8 2)) s)
-
--- ---- what a program's answer says
-
-unfoldable pub told : Answer → Outcome
-told (Read x) = read (values_in x)
-told (Refused x) = refused_by x
-
--- the refusal of an answer that is one; of none, zeros
-abbrev pub refusal_in : Answer → Refusal
-refusal_in (Refused x) = x
-refusal_in (Read x) = no_refusal

@@ -1,28 +1,37 @@
 -- Section 4's templates as runs of blocks, where these stand, and the total.
 -- Assumes nothing.
-use Rattle.std.specs.Prelude.{List, [], ◌∷◌, ◌++◌, ℕ, ◌+◌, ◌*◌, ◌≡◌, Bool, true, false, cond, ◌&&◌, eqb}
+use Rattle.std.specs.Prelude.{List, [], ◌∷◌, ◌++◌, ℕ, ◌+◌, ◌*◌, Bool, true, false, cond, ◌&&◌, eqb, Option, Some, None, Result, Ok, Err}
 use Rattle.layout.specs.Fields.{Value, Field, lacking, tag, shown, after, values_of}
+use Rattle.layout.specs.Outcomes.{refusal}
+use Rattle.layout.specs.declared.Refusal.{Refusal}
 use Rattle.octets.specs.Octets.{be_at}
-use Rattle.product.specs.Blocks.{head, parameter, common, ensemble, cluster, probability, aerosol, interval, tag_in, ahead_in, behind_in}
+use Rattle.product.specs.Blocks.{head, parameter, common, ensemble, cluster, probability, aerosol, interval}
 use Rattle.product.specs.declared.templates.PartKind.{PartKind}
 use Rattle.product.specs.declared.templates.PartKind.TheVariants.{None as no_part, Ensemble, Cluster, Probability, Aerosol}
 use Rattle.product.specs.declared.templates.Template.{Template}
-use Rattle.product.specs.declared.templates.Template.TheVariants.{NotListed, Listed}
-use Rattle.product.specs.declared.blocks.Part.{Part}
+
+-- a template with such a part, and time ranges or none
+abbrev pub listed : PartKind → Bool → Option Template
+listed kind timed = Some (record { kind = kind; timed = timed })
 
 -- each has a part or none; a timed one has the end of an interval and time ranges, and the others speak of a point in time
-unfoldable pub template_of : ℕ → Template
+unfoldable pub template_of : ℕ → Option Template
 template_of number =
-    cond (eqb number 0) (Listed no_part false)
-    (cond (eqb number 1) (Listed Ensemble false)
-    (cond (eqb number 4) (Listed Cluster false)
-    (cond (eqb number 5) (Listed Probability false)
-    (cond (eqb number 8) (Listed no_part true)
-    (cond (eqb number 9) (Listed Probability true)
-    (cond (eqb number 11) (Listed Ensemble true)
-    (cond (eqb number 14) (Listed Cluster true)
-    (cond (eqb number 46) (Listed Aerosol true)
-    NotListed))))))))
+    cond (eqb number 0) (listed no_part false)
+    (cond (eqb number 1) (listed Ensemble false)
+    (cond (eqb number 4) (listed Cluster false)
+    (cond (eqb number 5) (listed Probability false)
+    (cond (eqb number 8) (listed no_part true)
+    (cond (eqb number 9) (listed Probability true)
+    (cond (eqb number 11) (listed Ensemble true)
+    (cond (eqb number 14) (listed Cluster true)
+    (cond (eqb number 46) (listed Aerosol true)
+    None))))))))
+
+-- as a program's answer: 6 where none is listed
+abbrev pub listed_or_6 : Option Template → Result Template Refusal
+listed_or_6 None = Err (refusal 6 4 0)
+listed_or_6 (Some t) = Ok t
 
 -- what stands between the parameter and the generating process
 unfoldable pub ahead : PartKind → List Field
@@ -119,9 +128,3 @@ total_in kind timed s = total kind timed (ranges_at kind timed s) (members_at ki
 
 abbrev pub values₄ : PartKind → Bool → List ℕ → List Value
 values₄ kind timed s = values_of (after 0 (fields_in kind timed s)) s
-
--- a part says what the octets of its kind's blocks say
-pub record PartSays (x : Part) (kind : PartKind) (s : List ℕ) : Type 0 where
-  pub tags : tag_in x ≡ part_tag kind
-  pub leads : ahead_in x ≡ values_of (after 11 (ahead kind)) s
-  pub follows : behind_in x ≡ values_of (after (front_end kind + 23) (behind kind)) s

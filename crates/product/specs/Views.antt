@@ -1,6 +1,6 @@
 -- What a caller is shown of a section 4: a time range, the members, the coordinates, as those very octets of the section.
 -- Assumes nothing.
-use Rattle.std.specs.Prelude.{ℕ, zero, suc, ◌+◌, ◌*◌, ◌≡◌, List, [], ◌++◌, cond, ltb}
+use Rattle.std.specs.Prelude.{ℕ, zero, suc, ◌+◌, ◌*◌, List, [], ◌++◌, cond, ltb, Option, Some, None}
 use Rattle.octets.specs.Octets.{be_at}
 use Rattle.layout.specs.Outcomes.{if_read}
 use Rattle.layout.specs.Spans.{nowhere, span_after, octets_in}
@@ -8,30 +8,28 @@ use Rattle.layout.specs.declared.Span.{Span}
 use Rattle.product.specs.Templates.{template_of, part_end, ranges_end, ranges_at, members_at, coordinates_at}
 use Rattle.product.specs.Section4.{outcome₄}
 use Rattle.product.specs.declared.templates.Template.{Template}
-use Rattle.product.specs.declared.templates.Template.TheVariants.{NotListed, Listed}
-use Rattle.product.specs.declared.views.Lists.{Lists}
 
 -- the template by which a section is read; a refused section has none
-abbrev pub template_read : List ℕ → Template
-template_read s = if_read (outcome₄ s) (template_of (be_at s 8 2)) NotListed
+abbrev pub template_read : List ℕ → Option Template
+template_read s = if_read (outcome₄ s) (template_of (be_at s 8 2)) None
 
 -- ---- where they stand
 
 -- the k-th time range (from 0): 12 octets; nowhere from n up
-unfoldable pub range_by : Template → List ℕ → ℕ → Span
-range_by NotListed s k = nowhere
-range_by (Listed kind timed) s k = cond (ltb k (ranges_at kind timed s)) (span_after (part_end kind + 12 + 12 * k) 12) nowhere
+unfoldable pub range_by : Option Template → List ℕ → ℕ → Span
+range_by None s k = nowhere
+range_by (Some t) s k = cond (ltb k (ranges_at t.kind t.timed s)) (span_after (part_end t.kind + 12 + 12 * k) 12) nowhere
 
 -- the Nc member numbers follow the ranges
-unfoldable pub members_by : Template → List ℕ → Span
-members_by NotListed s = nowhere
-members_by (Listed kind timed) s = span_after (ranges_end kind timed (ranges_at kind timed s)) (members_at kind s)
+unfoldable pub members_by : Option Template → List ℕ → Span
+members_by None s = nowhere
+members_by (Some t) s = span_after (ranges_end t.kind t.timed (ranges_at t.kind t.timed s)) (members_at t.kind s)
 
 -- the NV coordinate values of 4 octets follow the members
-unfoldable pub coordinates_by : Template → List ℕ → Span
-coordinates_by NotListed s = nowhere
-coordinates_by (Listed kind timed) s =
-    span_after (ranges_end kind timed (ranges_at kind timed s) + members_at kind s) (4 * coordinates_at s)
+unfoldable pub coordinates_by : Option Template → List ℕ → Span
+coordinates_by None s = nowhere
+coordinates_by (Some t) s =
+    span_after (ranges_end t.kind t.timed (ranges_at t.kind t.timed s) + members_at t.kind s) (4 * coordinates_at s)
 
 abbrev pub range_span : List ℕ → ℕ → Span
 range_span s k = range_by (template_read s) s k
@@ -41,12 +39,6 @@ member_span s = members_by (template_read s) s
 
 abbrev pub coordinate_span : List ℕ → Span
 coordinate_span s = coordinates_by (template_read s) s
-
--- a program's lists say where these stand
-pub record ListsStand (x : Lists) (template : Template) (s : List ℕ) : Type 0 where
-  pub range : (k : ℕ) → cond (ltb k x.ranges) (span_after (x.ranges_after + 12 * k) 12) nowhere ≡ range_by template s k
-  pub members-are : x.members ≡ members_by template s
-  pub coordinates-are : x.coordinates ≡ coordinates_by template s
 
 -- ---- what is shown
 

@@ -2,20 +2,19 @@
 #![tactic(auto)]
 
 ghost use Rattle.std.specs.Prelude.{◌≡◌};
-ghost use Rattle.product.specs.Section4.{as_template, outcome₄, told, refusal_in};
+ghost use Rattle.layout.specs.Outcomes.{told};
+ghost use Rattle.product.specs.Blocks.{values_in};
+ghost use Rattle.product.specs.Section4.{as_template, outcome₄};
 
-use bad_field::bad_place;
-use blocks::record_of;
 use layout::Refusal;
-use templates::{lack_of_ranges, member_count, range_count, template_of, total_of};
 
-mod bad_field;
 mod blocks;
+mod checks;
 mod templates;
 mod views;
 
 pub use blocks::{
-    AerosolPart, ClusterPart, EnsemblePart, Forecast, Interval, IntervalEnd, Parameter, Part,
+    AerosolPart, ClusterPart, EnsemblePart, Forecast, IntervalEnd, Parameter, Part,
     ProbabilityPart, Process, Product, Scaled, Surface,
 };
 pub use templates::{PartKind, Template};
@@ -23,53 +22,33 @@ pub use views::{
     coordinate_list, coordinate_span, member_list, member_span, range_span, time_range,
 };
 
-#[derive(Clone, Copy)]
-pub enum Answer {
-    Read(Product),
-    Refused(Refusal),
-}
-
 // Reads a lent section 4, or refuses it with 1 to 9, 11 or 21.
-pub fn read(section: &[u8]) -> Answer
-    ensures { told result ≡ outcome₄ section.now }
+#[tactic(auto, using(crate::proofs::ByChecks::section4_by_checks))]
+pub fn read(section: &[u8]) -> Result<Product, Refusal>
+    ensures { told values_in result ≡ outcome₄ section.now }
 {
-    let refused = layout::opening_refusal(section, 4, 9);
-    if refused.number != 0 {
-        return Answer::Refused(refused);
-    }
-    let template = template_of(octets::u16_at(section, 8));
-    let Template::Listed { kind, timed } = template else {
-        return Answer::Refused(Refusal::of(6, 4));
-    };
-    read_as(section, kind, timed)
+    layout::check_opening(section, 4, 9)?;
+    let template = Template::try_from(octets::u16_at(section, 8))?;
+    template.read(section)
 }
 
-// The refusal of an answer that is one, for a caller to hand on.
-pub fn refusal_of(answer: Answer) -> Refusal
-    ensures { result ≡ refusal_in answer }
-{
-    match answer {
-        Answer::Refused(x) => x,
-        Answer::Read(_) => Refusal::none(),
+impl Template {
+    // The rest of the reading, once the template is known.
+    #[tactic(auto, using(crate::proofs::ByChecks::template_by_checks))]
+    fn read(self, section: &[u8]) -> Result<Product, Refusal>
+        ensures { told values_in result ≡ as_template self.kind self.timed section.now }
+    {
+        if section.len() < self.total(1, 0, 0) {
+            return Err(Refusal::of(7, 4));
+        }
+        self.check_fields(section)?;
+        let ranges = self.range_count(section);
+        if self.timed && ranges == 0 {
+            return Err(Refusal::of(9, 4));
+        }
+        let members = self.member_count(section);
+        let coordinates = octets::u16_at(section, 6);
+        layout::check_total(section, 4, self.total(ranges, members, coordinates))?;
+        Ok(self.record_of(section))
     }
-}
-
-// The rest of the reading, once the template is known.
-fn read_as(section: &[u8], kind: PartKind, timed: bool) -> Answer
-    ensures { told result ≡ as_template kind timed section.now }
-{
-    if section.len() < total_of(kind, timed, 1, 0, 0) {
-        return Answer::Refused(Refusal::of(7, 4));
-    }
-    let bad = bad_place(section, kind, timed);
-    let ranges = range_count(section, kind, timed);
-    let own = lack_of_ranges(timed, ranges);
-    let members = member_count(section, kind);
-    let coordinates = octets::u16_at(section, 6);
-    let total = total_of(kind, timed, ranges, members, coordinates);
-    let refused = layout::fitting_refusal(section, 4, bad, own, total);
-    if refused.number != 0 {
-        return Answer::Refused(refused);
-    }
-    Answer::Read(record_of(section, kind, timed))
 }
