@@ -3,7 +3,7 @@
 use Prim.Native.Nat.{ℕ, suc, ◌+◌, ◌-◌, ◌≤◌, ◌<◌}
 use native.Mathlib.Omega.{arith}
 use native.Mathlib.Numerals.{add-one}
-use borrow.Author.Tests.{ne_eqb, eqb-true}
+use borrow.Author.Tests.{eqb-true}
 use mathlib.Core.Path.{◌≡◌, refl, ap, sym, subst, ◌∙◌}
 use mathlib.Core.Bool.{true, not}
 use mathlib.Core.List.{List, [], ◌∷◌, map}
@@ -11,7 +11,8 @@ use lib.Dec.{eqb}
 use lib.ListN.{length, take, drop, get_or, drop_of_length-le}
 use lib.Seq.{drop-cons, take-nil}
 use Rattle.layout.specs.Fields.{Value}
-use Rattle.layout.specs.Outcomes.{Outcome, refused, read, and_then, refusal_of}
+use Rattle.layout.specs.Outcomes.{Outcome, refused, read, and_then, check_of, and_check}
+use Rattle.std.specs.Prelude.{Ok, Err}
 use Rattle.layout.specs.Spans.{octets_in}
 use Rattle.layout.specs.declared.Span.{Span}
 use Rattle.layout.specs.declared.Refusal.{Refusal}
@@ -25,7 +26,7 @@ use Rattle.grid.specs.Section3.{outcome₃}
 use Rattle.grid.specs.Refused.{table₃}
 use Rattle.grid.proofs.RefusalNumbers.{refuses₃}
 use Rattle.grid.proofs.AcceptedExactlyWhen.{accepted-exactly-when as exactly₃}
-use Rattle.field.specs.Field.{FieldOutcome, refused_field, read_field, points_at, later_outcome, field_refusal}
+use Rattle.field.specs.Field.{FieldOutcome, refused_field, read_field, points_at, later_outcome, field_check}
 use Rattle.field.specs.Accepted.{AcceptedField}
 use Rattle.field.specs.Refused.{field_table}
 use Rattle.field.proofs.Later.{first-refusal}

@@ -7,7 +7,8 @@ use mathlib.Core.Bool.{Bool, true, false, cond}
 use mathlib.Core.List.{List, [], ◌∷◌}
 use lib.Dec.{eqb}
 use lib.ListN.{length}
-use borrow.Author.Tests.{eqb-true}
+use Rattle.std.specs.Prelude.{Ok, Err}
+use Rattle.layout.specs.Outcomes.{Check}
 use Rattle.layout.specs.declared.Refusal.{Refusal}
 use Rattle.message.specs.declared.Sections.{Sections}
 use Rattle.message.specs.Walk.{Cut}
