@@ -12,7 +12,6 @@ use borrow.Author.Tests.{lt-ltb, le-ltb, eq-eqb, ne_eqb}
 use Rattle.octets.specs.Octets.{be_at}
 use Rattle.std.specs.Prelude.{Ok, Err}
 use Rattle.layout.specs.Outcomes.{Reason, refusal, Check, first_refusal}
-use Rattle.layout.specs.declared.Refusal.{Refusal}
 use Rattle.layout.proofs.Refusals.{by-test}
 use Rattle.cutting.specs.Cuts.{Cut as Pieces, no_item, in_front, cut_of}
 use Rattle.cutting.specs.Sections.{section_step}

@@ -161,5 +161,5 @@ all_found one (g ∷ gs) is are first most =
 pub frame_found : (m : List ℕ) (p : Parts) → IsFrame m p → cut_message m ≡ fields_found (places_in p)
 unfolding cut_message
 frame_found m p f =
-    rw (eq-eqb _ _ (started m (frame-starts m p f)), ends_so m p f, sections-are m p f)
+    rw (started m (frame-starts m p f), ends_so m p f, sections-are m p f)
     (all_found p.one p.groups f.one f.groups f.first f.most)

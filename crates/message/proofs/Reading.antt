@@ -1,6 +1,6 @@
 -- Reading the fields that were found, from the first to the last; what the field before has too is not read again.
 -- Assumes nothing.
-use Prim.Native.Nat.{ℕ, suc, ◌+◌, ◌-◌, ◌≤◌, ◌<◌}
+use Prim.Native.Nat.{ℕ, ◌+◌, ◌≤◌, ◌<◌}
 use native.Mathlib.Omega.{arith}
 use native.Mathlib.Numerals.{add-one}
 use borrow.Author.Tests.{eqb-true}
@@ -8,34 +8,27 @@ use mathlib.Core.Path.{◌≡◌, refl, ap, sym, subst, ◌∙◌}
 use mathlib.Core.Bool.{true, not}
 use mathlib.Core.List.{List, [], ◌∷◌, map}
 use lib.Dec.{eqb}
-use lib.ListN.{length, take, drop, get_or, drop_of_length-le}
-use lib.Seq.{drop-cons, take-nil}
+use lib.ListN.{length, drop, get_or, drop_of_length-le}
+use lib.Seq.{drop-cons}
 use Rattle.layout.specs.Fields.{Value}
-use Rattle.layout.specs.Outcomes.{Outcome, refused, read, and_then, check_of, and_check}
+use Rattle.layout.specs.Outcomes.{Outcome, refused, read, and_then, check_of, and_check, told}
 use Rattle.std.specs.Prelude.{Ok, Err}
 use Rattle.layout.specs.Spans.{octets_in}
 use Rattle.layout.specs.declared.Span.{Span}
 use Rattle.layout.specs.declared.Refusal.{Refusal}
 use Rattle.layout.proofs.Ranges.{both_hold, test-differs}
-use Rattle.layout.proofs.Refusals.{Proper, proper}
 use Rattle.identification.specs.Section1.{outcome₁}
-use Rattle.identification.specs.Refused.{table₁}
-use Rattle.identification.proofs.RefusalNumbers.{refuses₁}
 use Rattle.identification.proofs.AcceptedExactlyWhen.{accepted-exactly-when as exactly₁}
 use Rattle.grid.specs.Section3.{outcome₃}
-use Rattle.grid.specs.Refused.{table₃}
-use Rattle.grid.proofs.RefusalNumbers.{refuses₃}
 use Rattle.grid.proofs.AcceptedExactlyWhen.{accepted-exactly-when as exactly₃}
 use Rattle.field.specs.Field.{FieldOutcome, refused_field, read_field, points_at, later_outcome, field_check}
 use Rattle.field.specs.Accepted.{AcceptedField}
-use Rattle.field.specs.Refused.{field_table}
 use Rattle.field.proofs.Later.{first-refusal}
-use Rattle.field.proofs.RefusalNumbers.{RefusesField, refuses-field}
 use Rattle.message.specs.declared.Sections.{Sections}
 use Rattle.message.specs.Walk.{Cut}
-use Rattle.message.specs.Walk.{refused_with, unless_refused}
+use Rattle.message.specs.Walk.{refused_with}
 use Rattle.message.specs.Grammar.{Five}
-use Rattle.message.specs.Messages.{shown_in, outcome_of, opening_outcome, same_section, WasRead, OpeningRead, or_refused, fields_read}
+use Rattle.message.specs.Messages.{shown_in, outcome_of, same_section, WasRead, OpeningRead, or_refused, fields_read}
 use Rattle.message.proofs.AcceptedExactlyWhen.{taken-on, follows-five}
 
 -- a section that stands where one stands that was read
@@ -51,16 +44,26 @@ again outcome m before x was same =
 
 -- ---- sections 1 and 3, and then the others
 
-both_checked : (one three later : Outcome) → and_check (check_of (and_then one three)) (check_of later) ≡ check_of (and_then one (and_then three later))
+and_checked : (a b : Outcome) → check_of (and_then a b) ≡ and_check (check_of a) (check_of b)
 unfolding and_then and_check
-both_checked (refused number section place) three later = refl
-both_checked (read vs) (refused number section place) later = refl
-both_checked (read vs) (read ws) later = refl
+and_checked (refused number section place) b = refl
+and_checked (read vs) b = refl
 
--- a field's check is that of sections 1 and 3, and then that of the others
-pub field_checks : (x : Five) → and_check (check_of (opening_outcome x)) (check_of (later_outcome (points_at x.three) x.four x.five x.seven)) ≡ field_check (outcome_of x)
+-- a field's check is that of section 1, then of section 3, and then that of the others
+pub field_checks : (x : Five) → field_check (outcome_of x) ≡ and_check (check_of (outcome₁ x.one)) (and_check (check_of (outcome₃ x.three)) (check_of (later_outcome (points_at x.three) x.four x.five x.seven)))
 unfolding outcome_of
-field_checks x = both_checked (outcome₁ x.one) (outcome₃ x.three) _ ∙ sym (first-refusal x.one x.three x.four x.five x.seven)
+field_checks x = first-refusal x.one x.three x.four x.five x.seven ∙ and_checked (outcome₁ x.one) _ ∙ ap (and_check (check_of (outcome₁ x.one))) (and_checked (outcome₃ x.three) _)
+
+-- ---- a section alone: what a reader answers is its check, or it was read where it stands
+
+pub refused_check : {A : Type 0} (values : A → List Value) (x : Refusal) (o : Outcome) → told values (Err x) ≡ o → Err x ≡ check_of o
+refused_check values x o e = ap check_of e
+
+pub passed_check : {A : Type 0} (values : A → List Value) (a : A) (o : Outcome) → told values (Ok a) ≡ o → Ok tt ≡ check_of o
+passed_check values a o e = ap check_of e
+
+pub again_check : (outcome : List ℕ → Outcome) (m : List ℕ) (before x : Span) → WasRead outcome m before → same_section before x ≡ true → Ok tt ≡ check_of (outcome (octets_in x m))
+again_check outcome m before x was same = let read = again outcome m before x was same in sym (ap check_of read.1)
 
 -- ---- one field
 
@@ -85,31 +88,23 @@ opening-read m f e =
 -- ---- from field to field
 
 -- the fields from the k-th on
-abbrev pub fields_from : Cut → ℕ → List Sections
-fields_from c k = take (c.count - k) (drop k c.fields)
+abbrev pub shown_from : List ℕ → List Sections → ℕ → List Five
+shown_from m fs k = map (shown_in m) (drop k fs)
 
-abbrev pub shown_from : List ℕ → Cut → ℕ → List Five
-shown_from m c k = map (shown_in m) (fields_from c k)
+pub all_read : (m : List ℕ) (fs : List Sections) (k : ℕ) → length fs ≤ k → shown_from m fs k ≡ []
+all_read m fs k h = ap (map (shown_in m)) (drop_of_length-le fs {i = k} h)
 
-pub none_left : (m : List ℕ) (c : Cut) (k : ℕ) → c.count ≤ k → shown_from m c k ≡ []
-none_left m c k h = let none : c.count - k ≡ 0 = omega arith in ap (λ (n : ℕ). map (shown_in m) (take n (drop k c.fields))) none
-
-pub all_read : (m : List ℕ) (c : Cut) (k : ℕ) → length c.fields ≤ k → shown_from m c k ≡ []
-all_read m c k h = ap (map (shown_in m)) (ap (take (c.count - k)) (drop_of_length-le c.fields {i = k} h) ∙ take-nil (c.count - k))
-
-one_left : (m : List ℕ) (c : Cut) (k : ℕ) (d : Sections) → k < c.count → k < length c.fields → shown_from m c k ≡ shown_in m (get_or c.fields k d) ∷ shown_from m c (k + 1)
-one_left m c k d h l =
-    let more : c.count - k ≡ suc (c.count - (k + 1)) = omega arith in
-    rw (more, drop-cons c.fields k d l, add-one) refl
+one_left : (m : List ℕ) (fs : List Sections) (k : ℕ) (d : Sections) → k < length fs → shown_from m fs k ≡ shown_in m (get_or fs k d) ∷ shown_from m fs (k + 1)
+one_left m fs k d l = rw (drop-cons fs k d l, add-one) refl
 
 -- the k-th field is read, and then those behind it; or it is refused
-module _ (m : List ℕ) (c : Cut) (k : ℕ) (d : Sections) (h : k < c.count) (l : k < length c.fields) where
-  pub next-read : field_check (outcome_of (shown_in m (get_or c.fields k d))) ≡ Ok tt → fields_read c (shown_from m c (k + 1)) ≡ fields_read c (shown_from m c k)
+module _ (m : List ℕ) (c : Cut) (fs : List Sections) (k : ℕ) (d : Sections) (l : k < length fs) where
+  pub next-read : Ok tt ≡ field_check (outcome_of (shown_in m (get_or fs k d))) → fields_read c (shown_from m fs (k + 1)) ≡ fields_read c (shown_from m fs k)
   unfolding fields_read
   next-read e =
-      sym (taken-on _ (fields_read c (shown_from m c (k + 1))) (accepted-five _ e)) ∙ sym (ap (fields_read c) (one_left m c k d h l))
+      sym (taken-on _ (fields_read c (shown_from m fs (k + 1))) (accepted-five _ (sym e))) ∙ sym (ap (fields_read c) (one_left m fs k d l))
 
-  pub next-refused : (x : Refusal) → field_check (outcome_of (shown_in m (get_or c.fields k d))) ≡ Err x → refused_with x ≡ fields_read c (shown_from m c k)
+  pub next-refused : (x : Refusal) → Err x ≡ field_check (outcome_of (shown_in m (get_or fs k d))) → refused_with x ≡ fields_read c (shown_from m fs k)
   unfolding fields_read
   next-refused x e =
-      refused-field _ (fields_read c (shown_from m c (k + 1))) x e ∙ sym (ap (fields_read c) (one_left m c k d h l))
+      refused-field _ (fields_read c (shown_from m fs (k + 1))) x (sym e) ∙ sym (ap (fields_read c) (one_left m fs k d l))

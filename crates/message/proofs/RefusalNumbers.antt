@@ -3,19 +3,19 @@
 use Prim.Native.Nat.{ℕ, ◌+◌, ◌≤◌}
 use native.Mathlib.Omega.{arith}
 use mathlib.Core.Path.{◌≡◌, refl, sym, ap, subst}
-use mathlib.Core.Logic.{◌↔◌, ◌⊎◌, inl, inr, ⊎_elim}
-use mathlib.Core.Bool.{Bool, true, false, cond}
+use mathlib.Core.Logic.{◌↔◌, inl, inr, ⊎_elim}
+use mathlib.Core.Bool.{Bool, true, false}
 use mathlib.Core.List.{List, [], ◌∷◌}
 use lib.Dec.{eqb}
 use lib.ListN.{length}
-use borrow.Author.Tests.{eq-eqb, eqb-true, eqb-false}
-use Rattle.std.specs.Prelude.{Ok, Err}
+use borrow.Author.Tests.{eq-eqb}
+use Rattle.std.specs.Prelude.{Ok}
 use Rattle.layout.specs.Outcomes.{refused, refusal, Check, no_refusal}
 use Rattle.layout.specs.Spans.{nowhere}
 use Rattle.layout.specs.Refusals.{Row, one_of, numbers_of, has_place, last_place, Listed}
 use Rattle.layout.specs.declared.Refusal.{Refusal}
 use Rattle.layout.proofs.Outcomes.{either}
-use Rattle.layout.proofs.Refusals.{by-test, within, wider, placeless, AllListed, PassedOrListed, passed, listed, first-listed, proper}
+use Rattle.layout.proofs.Refusals.{within, wider, placeless, AllListed, PassedOrListed, passed, listed, first-listed, proper}
 use Rattle.field.specs.Field.{FieldOutcome, refused_field, read_field}
 use Rattle.field.specs.Refused.{field_table}
 use Rattle.field.proofs.RefusalNumbers.{RefusesField, refuses-field}

@@ -9,10 +9,9 @@ use lib.Dec.{eqb}
 use lib.ListN.{length}
 use Rattle.std.specs.Prelude.{Ok, Err}
 use Rattle.layout.specs.Outcomes.{Check}
-use Rattle.layout.specs.declared.Refusal.{Refusal}
 use Rattle.message.specs.declared.Sections.{Sections}
 use Rattle.message.specs.Walk.{Cut}
-use Rattle.message.specs.Walk.{Walk, number_in, section_refusal, one_more, with_section, taken, refused_with, unless_refused, judged_in}
+use Rattle.message.specs.Walk.{Walk, number_in, section_refusal, one_more, with_section, taken, unless_refused, judged_in}
 use Rattle.message.specs.Messages.{Accepted}
 use Rattle.message.specs.FirstPlace.{Clear, fields_after}
 use Rattle.message.proofs.Clear.{clear, end-clear}

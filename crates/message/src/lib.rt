@@ -5,9 +5,12 @@ ghost use Rattle.std.specs.Prelude.{◌≡◌, drop, take};
 ghost use Rattle.cutting.specs.Cuts.{cut_of};
 ghost use Rattle.cutting.specs.Sections.{section_step};
 ghost use Rattle.layout.specs.Outcomes.{check_of};
+ghost use Rattle.layout.specs.Spans.{octets_in};
+ghost use Rattle.identification.specs.Section1.{outcome₁};
+ghost use Rattle.grid.specs.Section3.{outcome₃};
 ghost use Rattle.field.specs.Field.{field_check};
 ghost use Rattle.message.specs.Walk.{no_sections, told, in_force, unless_refused, may_follow, other_six, section_refusal, end_refusal, judged, start_walk};
-ghost use Rattle.message.specs.Messages.{start_refusal, cut_message, shown_in, outcome_of, opening_outcome, same_section, OpeningRead, found_in, fields_read, read_message, field_of, span_of, section_in};
+ghost use Rattle.message.specs.Messages.{start_refusal, cut_message, shown_in, outcome_of, same_section, WasRead, OpeningRead, found_in, fields_read, read_message, field_of, span_of, section_in};
 
 use layout::{Refusal, Span};
 
@@ -60,8 +63,7 @@ pub fn read(message: &[u8]) -> Result<Fields, Refusal>
 pub fn section(message: &[u8], fields: Fields, k: usize, section: u8) -> &[u8]
     ensures { result.now ≡ section_in message.now (told (Ok fields)) k section }
 {
-    let span = span_of(field_of(fields, k), section);
-    octets::part_after(message, span.before, span.length)
+    span_of(field_of(fields, k), section).of(message)
 }
 
 // Where the k-th field's sections stand, from 0; past the last field, nowhere.
@@ -89,7 +91,7 @@ pub fn span_of(sections: Sections, section: u8) -> Span
         4 => sections.four,
         5 => sections.five,
         7 => sections.seven,
-        _ => Span::after(0, 0),
+        _ => Span::NOWHERE,
     }
 }
 
@@ -111,26 +113,37 @@ fn check_field(message: &[u8], before: Sections, sections: Sections) -> Result<(
     requires { OpeningRead message.now before }
     ensures { result ≡ field_check (outcome_of (shown_in message.now sections)) }
 {
-    check_opening(message, before, sections)?;
-    let section3 = octets::part_after(message, sections.three.before, sections.three.length);
-    let section4 = octets::part_after(message, sections.four.before, sections.four.length);
-    let section5 = octets::part_after(message, sections.five.before, sections.five.length);
-    let section7 = octets::part_after(message, sections.seven.before, sections.seven.length);
-    field::check_later(octets::u32_at(section3, 7), section4, section5, section7)
+    check_one(message, before.one, sections.one)?;
+    check_three(message, before.three, sections.three)?;
+    let points = octets::u32_at(sections.three.of(message), 7);
+    field::check_later(
+        points,
+        sections.four.of(message),
+        sections.five.of(message),
+        sections.seven.of(message),
+    )
 }
 
-// Sections 1 and 3 of a field: one that the field before has too was read there, and is not read again.
-fn check_opening(message: &[u8], before: Sections, sections: Sections) -> Result<(), Refusal>
-    requires { OpeningRead message.now before }
-    ensures { result ≡ check_of (opening_outcome (shown_in message.now sections)) }
+// Section 1 of a field: one that the field before has too was read there, and is not read again.
+#[tactic(auto, using(crate::proofs::Reading::refused_check, crate::proofs::Reading::passed_check, crate::proofs::Reading::again_check))]
+fn check_one(message: &[u8], before: Span, section: Span) -> Result<(), Refusal>
+    requires { WasRead outcome₁ message.now before }
+    ensures { result ≡ check_of (outcome₁ (octets_in section message.now)) }
 {
-    if !stands_there(before.one, sections.one) {
-        let section1 = octets::part_after(message, sections.one.before, sections.one.length);
-        identification::read(section1)?;
+    if !stands_there(before, section) {
+        identification::read(section.of(message))?;
     }
-    if !stands_there(before.three, sections.three) {
-        let section3 = octets::part_after(message, sections.three.before, sections.three.length);
-        grid::read(section3)?;
+    Ok(())
+}
+
+// Section 3, in the same way: one function over the reader would ask for its contract as a parameter, in the place of these few lines.
+#[tactic(auto, using(crate::proofs::Reading::refused_check, crate::proofs::Reading::passed_check, crate::proofs::Reading::again_check))]
+fn check_three(message: &[u8], before: Span, section: Span) -> Result<(), Refusal>
+    requires { WasRead outcome₃ message.now before }
+    ensures { result ≡ check_of (outcome₃ (octets_in section message.now)) }
+{
+    if !stands_there(before, section) {
+        grid::read(section.of(message))?;
     }
     Ok(())
 }
@@ -187,10 +200,9 @@ fn walk_sections(body: &[u8], right: bool) -> Result<Fields, Refusal>
     let mut found = no_fields();
     let mut at: usize = 16;
     while at < body.len() {
-        let end = cutting::end_after(body, at);
-        if end == 0 {
+        let Some(end) = cutting::end_after(body, at) else {
             return Err(Refusal::of(23, 0));
-        }
+        };
         let section = cutting::stretch(body, at, end);
         check_section(section, last, found.count)?;
         last = octets::u8_at(section, 5);
@@ -277,13 +289,12 @@ fn in_force(sections: Sections, number: u8, span: Span) -> Sections
 fn no_sections() -> Sections
     ensures { result ≡ no_sections }
 {
-    let nowhere = Span::after(0, 0);
     Sections {
-        one: nowhere,
-        three: nowhere,
-        four: nowhere,
-        five: nowhere,
-        seven: nowhere,
+        one: Span::NOWHERE,
+        three: Span::NOWHERE,
+        four: Span::NOWHERE,
+        five: Span::NOWHERE,
+        seven: Span::NOWHERE,
     }
 }
 
