@@ -70,6 +70,12 @@ first-check section (r ∷ rs) o = by-holding (first_refusal section rs) (first-
     by-holding c rest true = refl
     by-holding c rest false = rest
 
+-- one check and then another
+pub check_then_and : (c d : Check) (o : Outcome) → check_then (and_check c d) o ≡ check_then c (check_then d o)
+unfolding and_check
+check_then_and (Err x) d o = refl
+check_then_and (Ok u) d o = refl
+
 -- where it passes, none holds
 pub passed-none : (section : ℕ) (rs : List Reason) → first_refusal section rs ≡ Ok tt → NoneHold rs
 passed-none section rs e = (read_none section rs (read []) [] (first-check section rs (read []) ∙ ap (λ (c : Check). check_then c (read [])) e)).0
