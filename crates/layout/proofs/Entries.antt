@@ -8,7 +8,7 @@ use Rattle.layout.specs.Fields.{between, not_ones, not_zero, unsigned, or_missin
 use Rattle.layout.specs.Outcomes.{refusal, head_reasons, first_refusal, opening_reasons, total_reasons, if_allowed, all_allowed}
 use Rattle.layout.specs.Missing.{in32, in_signed}
 use Rattle.layout.specs.Time.{time, time_in}
-use Rattle.layout.specs.Spans.{span_after}
+use Rattle.layout.specs.Spans.{span_after, octets_in}
 use Rattle.layout.specs.declared.Width.{Ghosts}
 use denote.RattleType.{RattleType}
 use denote.Param.Laws.{Laws}
@@ -58,3 +58,6 @@ check-time = record { takes = λ lent given. tt; ends = code.check_time.Met.met;
 
 pub span-after : Entry code.Span.after.Reads.Asked code.Span.after.Reads.Learnt code.Span.after.Statement.statement (λ given r later. r ≡ span_after given.0 given.1.0)
 span-after = record { takes = λ lent given. tt; ends = code.Span.after.Met.met; tells = λ lent given r later e. e }
+
+pub span-of : Entry code.Span.of.Reads.Asked code.Span.of.Reads.Learnt code.Span.of.Statement.statement (λ given r later. r.now ≡ octets_in given.0 given.1.0.now)
+span-of = record { takes = λ lent given. tt; ends = code.Span.of.Met.met; tells = λ lent given r later e. e }

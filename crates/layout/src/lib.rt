@@ -9,7 +9,7 @@ ghost use Rattle.layout.specs.Fields.{between, not_ones, not_zero, means, unsign
 ghost use Rattle.layout.specs.Outcomes.{refusal, head_reasons, opening_reasons, total_reasons, first_refusal, if_allowed, all_allowed};
 ghost use Rattle.layout.specs.Missing.{in32, in_signed};
 ghost use Rattle.layout.specs.Time.{time, time_in};
-ghost use Rattle.layout.specs.Spans.{span_after};
+ghost use Rattle.layout.specs.Spans.{span_after, octets_in};
 
 // Why something was refused: document 01's number, the section asked for, and the place. The number stays a number: document 01 has no names
 // for its refusals, and what is told of one to C, in texts and in the tables of specs/Refusals.antt is the number.
@@ -271,16 +271,25 @@ pub struct Span {
 }
 
 impl Span {
+    pub const NOWHERE: Span = Span {
+        before: 0,
+        length: 0,
+    };
+
     // So many octets behind octet `before`.
     pub fn after(before: usize, length: usize) -> Self
         ensures { result ≡ span_after before length }
     {
         if length == 0 {
-            return Self {
-                before: 0,
-                length: 0,
-            };
+            return Self::NOWHERE;
         }
         Self { before, length }
+    }
+
+    // Those very octets of the slice, or as many of them as there are.
+    pub fn of(self, s: &[u8]) -> &[u8]
+        ensures { result.now ≡ octets_in self s.now }
+    {
+        octets::part_after(s, self.before, self.length)
     }
 }
