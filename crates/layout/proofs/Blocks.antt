@@ -9,6 +9,7 @@ use native.Mathlib.Omega.{arith}
 use lib.ListN.{length, drop}
 use Rattle.octets.specs.Octets.{be_at, part}
 use Rattle.octets.proofs.Laws.{part-add, part-all, be_at-drop}
+use Rattle.layout.specs.Outcomes.{all_allowed}
 use Rattle.layout.specs.Fields.{Field, held, said, shown, FieldAt, width, allowed, reads, width_of, placed, after, Run, run, runs, Cover, lowest_bad, bad_place, values_of, octets_of, AllAllowed, Covered}
 
 pub width-append : (a b : List Field) → width_of (a ++ b) ≡ width_of a + width_of b
@@ -121,8 +122,8 @@ none-bad ps s h = clear-bad ps s 0 h
 pub moved : (end j : ℕ) (fs : List Field) (s : List ℕ) → values_of (after (end + j) fs) s ≡ values_of (placed end (j + 1) fs) s
 moved end j fs s = rw placed-shift
 
-pub bad-moved : (end j : ℕ) (fs : List Field) (s : List ℕ) (later : ℕ) → lowest_bad (after (end + j) fs) s later ≡ lowest_bad (placed end (j + 1) fs) s later
-bad-moved end j fs s later = rw placed-shift
+pub allowed_moved : (section end j : ℕ) (fs : List Field) (s : List ℕ) → all_allowed section (after (end + j) fs) s ≡ all_allowed section (placed end (j + 1) fs) s
+allowed_moved section end j fs s = rw placed-shift
 
 -- fields of a part that starts in the middle of the section
 values-dropped : (end j k : ℕ) (fs : List Field) (s : List ℕ) → 1 ≤ k → values_of (placed end k fs) (drop j s) ≡ values_of (placed (end + j) k fs) s

@@ -10,10 +10,11 @@ use lib.Dec.{eqb, ltb}
 use lib.ListN.{length}
 use borrow.Author.Tests.{le-ltb, ltb-false, ne_eqb}
 use Rattle.octets.specs.Octets.{be_at}
-use Rattle.layout.specs.Fields.{Value, Field, FieldAt, width, allowed, raw_at, placed, after, lowest_bad, bad_place}
+use Rattle.layout.specs.Fields.{Value, Field, FieldAt, width, width_of, allowed, raw_at, placed, after, lowest_bad, bad_place}
 use Rattle.layout.specs.Outcomes.{Reason, reason, bad_field, Outcome, refused, read, refusal, refused_by, Check, check_of, and_check, if_read, first_of, first_refusal, head_reasons, opening_reasons, total_reasons, fitting_reasons, template_reasons, if_allowed, all_allowed}
 use Rattle.std.specs.Prelude.{Ok, Err}
 use Rattle.layout.proofs.Ranges.{test-same, same_test}
+use Rattle.layout.proofs.Blocks.{after-append}
 
 -- ---- accepted: no reason holds
 
@@ -76,6 +77,12 @@ unfolding and_check
 check_then_and (Err x) d o = refl
 check_then_and (Ok u) d o = refl
 
+-- and another that passes
+pub and_passed : (c : Check) → and_check c (Ok tt) ≡ c
+unfolding and_check
+and_passed (Err x) = refl
+and_passed (Ok u) = refl
+
 -- where it passes, none holds
 pub passed-none : (section : ℕ) (rs : List Reason) → first_refusal section rs ≡ Ok tt → NoneHold rs
 passed-none section rs e = (read_none section rs (read []) [] (first-check section rs (read []) ∙ ap (λ (c : Check). check_then c (read [])) e)).0
@@ -131,6 +138,10 @@ allowed_append section (p ∷ ps) b s = by-allowed (all_allowed section ps s) (a
     by-allowed : (c e : Check) (t : Bool) {d : Check} → d ≡ and_check c e → and_check (if_allowed section p.at t) d ≡ and_check (and_check (if_allowed section p.at t) c) e
     by-allowed c e true rest = rest
     by-allowed c e false rest = refl
+
+-- blocks one after the other
+pub allowed_meet : (section end : ℕ) (a b : List Field) (s : List ℕ) → all_allowed section (after end (a ++ b)) s ≡ and_check (all_allowed section (after end a) s) (all_allowed section (after (end + width_of a) b) s)
+allowed_meet section end a b s = rw after-append (allowed_append section (after end a) (after (end + width_of a) b) s)
 
 -- a reader's checks once the template is known: 7, the fields, its own number, the total
 pub template_checks : (section smallest own total : ℕ) (fs : List Field) (s : List ℕ) (o : Outcome) → first_of section (template_reasons smallest (bad_place (after 0 fs) s) own total s) o
