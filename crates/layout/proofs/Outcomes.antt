@@ -12,7 +12,8 @@ use borrow.Author.Tests.{le-ltb, ltb-false, ne_eqb}
 use Rattle.octets.specs.Octets.{be_at}
 use Rattle.layout.specs.Fields.{Value, Field, FieldAt, width, width_of, allowed, raw_at, placed, after, lowest_bad, bad_place}
 use Rattle.layout.specs.Outcomes.{Reason, reason, bad_field, Outcome, refused, read, refusal, refused_by, Check, check_of, and_check, if_read, first_of, first_refusal, head_reasons, opening_reasons, total_reasons, fitting_reasons, template_reasons, if_allowed, all_allowed}
-use Rattle.std.specs.Prelude.{Ok, Err}
+use Rattle.layout.specs.declared.Refusal.{Refusal}
+use Rattle.std.specs.Prelude.{Result, Ok, Err}
 use Rattle.layout.proofs.Ranges.{test-same, same_test}
 use Rattle.layout.proofs.Blocks.{after-append}
 
@@ -61,6 +62,11 @@ first-append section (r ∷ rs) b o = rw (first-append section rs b o)
 abbrev pub check_then : Check → Outcome → Outcome
 check_then (Err x) o = refused_by x
 check_then (Ok u) o = o
+
+-- the same where the answer before found something to go on by, as a reader its template
+abbrev pub then_by : {A : Type 0} → Result A Refusal → (A → Outcome) → Outcome
+then_by (Err x) go = refused_by x
+then_by (Ok a) go = go a
 
 pub first-check : (section : ℕ) (rs : List Reason) (o : Outcome) → first_of section rs o ≡ check_then (first_refusal section rs) o
 unfolding first_of first_refusal
