@@ -1,55 +1,50 @@
 -- Any two answers that `read`'s contract allows for a section are one answer.
 -- Assumes nothing.
 use Prim.Native.Nat.{ℕ}
-use mathlib.Core.Path.{◌≡◌, refl, ap}
+use mathlib.Core.Path.{◌≡◌, refl}
 use mathlib.Core.List.{List}
 use lib.ListN.{get_or}
 use lib.IntN.{nat_abs}
 use Rattle.layout.specs.Fields.{Value, none, missing, is, which, whole_in, natural_in}
 use Rattle.layout.specs.Time.{time_in}
+use Rattle.layout.specs.Outcomes.{told}
+use Rattle.layout.specs.declared.Refusal.{Refusal}
 use Rattle.layout.proofs.Untold.{to_time, told_back, one_answer}
-use Rattle.identification.specs.Section1.{told, values_in, number_in, calendar_in, offset_in, outcome₁}
-use Rattle.identification.specs.declared.TemplateNumber.{TemplateNumber}
-use Rattle.identification.specs.declared.TemplateNumber.TheVariants.{None as no_number, Is as is_number}
-use Rattle.identification.specs.declared.CalendarCode.{CalendarCode}
-use Rattle.identification.specs.declared.CalendarCode.TheVariants.{None as no_calendar, Is as is_calendar}
-use Rattle.identification.specs.declared.YearOffset.{YearOffset}
-use Rattle.identification.specs.declared.YearOffset.TheVariants.{None as no_offset, Is as is_offset}
+use Rattle.std.specs.Prelude.{ℤ, Option, Some, None, Result}
+use Rattle.identification.specs.Section1.{values_in, number_in, calendar_in, offset_in, outcome₁}
 use Rattle.identification.specs.declared.Identification.{Identification}
-use Rattle.identification.specs.declared.Answer.{Answer}
-use Rattle.identification.specs.declared.Answer.TheVariants.{Read, Refused}
 
 -- ---- fields that a template may lack
 
-abbrev pub to_number : Value → TemplateNumber
-to_number none = no_number
-to_number missing = no_number
-to_number (is z) = is_number (nat_abs z)
-to_number (which n) = no_number
+abbrev pub to_number : Value → Option ℕ
+to_number none = None
+to_number missing = None
+to_number (is z) = Some (nat_abs z)
+to_number (which n) = None
 
-abbrev pub to_calendar : Value → CalendarCode
-to_calendar none = no_calendar
-to_calendar missing = no_calendar
-to_calendar (is z) = is_calendar (nat_abs z)
-to_calendar (which n) = no_calendar
+abbrev pub to_calendar : Value → Option ℕ
+to_calendar none = None
+to_calendar missing = None
+to_calendar (is z) = Some (nat_abs z)
+to_calendar (which n) = None
 
-abbrev pub to_offset : Value → YearOffset
-to_offset none = no_offset
-to_offset missing = no_offset
-to_offset (is z) = is_offset z
-to_offset (which n) = no_offset
+abbrev pub to_offset : Value → Option ℤ
+to_offset none = None
+to_offset missing = None
+to_offset (is z) = Some z
+to_offset (which n) = None
 
-number-back : (x : TemplateNumber) → to_number (number_in x) ≡ x
-number-back no_number = refl
-number-back (is_number n) = refl
+number-back : (x : Option ℕ) → to_number (number_in x) ≡ x
+number-back None = refl
+number-back (Some n) = refl
 
-calendar-back : (x : CalendarCode) → to_calendar (calendar_in x) ≡ x
-calendar-back no_calendar = refl
-calendar-back (is_calendar n) = refl
+calendar-back : (x : Option ℕ) → to_calendar (calendar_in x) ≡ x
+calendar-back None = refl
+calendar-back (Some n) = refl
 
-offset-back : (x : YearOffset) → to_offset (offset_in x) ≡ x
-offset-back no_offset = refl
-offset-back (is_offset z) = refl
+offset-back : (x : Option ℤ) → to_offset (offset_in x) ≡ x
+offset-back None = refl
+offset-back (Some z) = refl
 
 -- ---- the record that says these values
 
@@ -99,6 +94,5 @@ pub same-record : (x y : Identification) → values_in x ≡ values_in y → x �
 same-record = told_back values_in to_identification identification-back
 
 -- and two answers that say the same are one answer
-pub determined : (s : List ℕ) (a b : Answer) → told a ≡ outcome₁ s → told b ≡ outcome₁ s → a ≡ b
-unfolding told
-determined s = one_answer told Refused Read to_identification (elim [ Refused x ↦ refl | Read x ↦ ap Read (identification-back x) ]) (outcome₁ s)
+pub determined : (s : List ℕ) (a b : Result Identification Refusal) → told values_in a ≡ outcome₁ s → told values_in b ≡ outcome₁ s → a ≡ b
+determined s = one_answer values_in to_identification identification-back (outcome₁ s)

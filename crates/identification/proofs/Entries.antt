@@ -1,12 +1,10 @@
 -- What is said of each public entry: it takes every input, it ends, and so much its contract says (`Entry`, of the crate `entry`).
 -- Assumes nothing.
 use mathlib.Core.Path.{◌≡◌}
-use Rattle.identification.specs.Section1.{told, outcome₁, refusal_in}
+use Rattle.layout.specs.Outcomes.{told}
+use Rattle.identification.specs.Section1.{values_in, outcome₁}
 use Rattle.entry.specs.Entry.{Entry}
 use Rattle.identification.proofs as code
 
-pub read : Entry code.read.Reads.Asked code.read.Reads.Learnt code.read.Statement.statement (λ given r later. told r ≡ outcome₁ given.0.now)
+pub read : Entry code.read.Reads.Asked code.read.Reads.Learnt code.read.Statement.statement (λ given r later. told values_in r ≡ outcome₁ given.0.now)
 read = record { takes = λ lent given. tt; ends = code.read.Met.met; tells = λ lent given r later e. e }
-
-pub refusal-of : Entry code.refusal_of.Reads.Asked code.refusal_of.Reads.Learnt code.refusal_of.Statement.statement (λ given r later. r ≡ refusal_in given.0)
-refusal-of = record { takes = λ lent given. tt; ends = code.refusal_of.Met.met; tells = λ lent given r later e. e }

@@ -7,3 +7,4 @@ pub mod RefusalNumbers
 pub mod ShortOrLong
 pub mod MeansByName
 pub mod OneTemplate
+pub mod Reading

@@ -9,17 +9,17 @@ use lib.ListN.{length, drop}
 use lib.Dec.{eqb}
 use Rattle.octets.specs.Octets.{be_at}
 use Rattle.layout.specs.Fields.{placed, after, bad_place}
-use Rattle.layout.specs.Outcomes.{read}
+use Rattle.layout.specs.Outcomes.{read, told}
 use Rattle.layout.specs.Refusals.{Listed}
 use Rattle.layout.specs.Time.{time}
 use Rattle.layout.specs.declared.Refusal.{Refusal}
 use Rattle.layout.proofs.Outcomes.{either}
 use Rattle.layout.proofs.Refusals.{Refuses, refusal-listed, placeless, reason-refuses, opening-refuses, template-refuses, stand_within, bad-within}
-use Rattle.identification.specs.Section1.{fields₁, origin, status_and_type, total, values₁, as_template, by_number, by_template, outcome₁, told}
+use Rattle.identification.specs.Section1.{fields₁, origin, status_and_type, total, values₁, as_template, by_number, by_template, values_in, outcome₁}
 use Rattle.identification.specs.Refused.{table₁}
+use Rattle.std.specs.Prelude.{Err}
 use Rattle.identification.specs.declared.Template.{Template}
 use Rattle.identification.specs.declared.Template.TheVariants.{None as no_template, Calendar, Offset, CalendarAndOffset}
-use Rattle.identification.specs.declared.Answer.TheVariants.{Refused}
 
 -- the fields with a rule stand within the total
 pub within₁ : (template : Template) → stand_within (total template) (placed 0 5 (drop 1 (fields₁ template))) ≡ true
@@ -54,6 +54,5 @@ refuses₁ s =
     (λ small. reason-refuses table₁ 1 5 (eqb (length s) 22) (by_template s) refl refl
     (either (Refuses table₁) (eqb (length s) 21) (as-template s small no_template) (by_each_number s small (be_at s 22 2))))
 
-pub identification-refuses : (s : List ℕ) (x : Refusal) → told (Refused x) ≡ outcome₁ s → Listed table₁ x
-unfolding told
+pub identification-refuses : (s : List ℕ) (x : Refusal) → told values_in (Err x) ≡ outcome₁ s → Listed table₁ x
 identification-refuses s x e = refusal-listed table₁ (outcome₁ s) x (refuses₁ s) e

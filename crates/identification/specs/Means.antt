@@ -1,17 +1,11 @@
 -- What is read out of a section 1, by name and octet: each field of the record is the meaning of its octets, by the template that the
 -- section follows.
 -- Assumes nothing.
-use Rattle.std.specs.Prelude.{ℕ, ◌≡◌, List, ℤ, pos, ◌+ℤ◌, ◌*ℤ◌}
+use Rattle.std.specs.Prelude.{ℕ, ◌≡◌, List, ℤ, pos, ◌+ℤ◌, ◌*ℤ◌, Option, Some, None}
 use Rattle.octets.specs.Octets.{be_at, sign_of}
 use Rattle.layout.specs.Time.{MeansTime}
 use Rattle.identification.specs.declared.Template.{Template}
 use Rattle.identification.specs.declared.Template.TheVariants.{None as no_template, Calendar, Offset, CalendarAndOffset}
-use Rattle.identification.specs.declared.TemplateNumber.{TemplateNumber}
-use Rattle.identification.specs.declared.TemplateNumber.TheVariants.{None as no_number, Is as is_number}
-use Rattle.identification.specs.declared.CalendarCode.{CalendarCode}
-use Rattle.identification.specs.declared.CalendarCode.TheVariants.{None as no_calendar, Is as is_calendar}
-use Rattle.identification.specs.declared.YearOffset.{YearOffset}
-use Rattle.identification.specs.declared.YearOffset.TheVariants.{None as no_offset, Is as is_offset}
 use Rattle.identification.specs.declared.Identification.{Identification}
 
 -- octets 13-14: unsigned without an offset, signed with one
@@ -22,25 +16,25 @@ year_meant Offset s = sign_of 2 (be_at s 13 2)
 year_meant CalendarAndOffset s = sign_of 2 (be_at s 13 2)
 
 -- octets 22-23
-abbrev pub number_meant : Template → List ℕ → TemplateNumber
-number_meant no_template s = no_number
-number_meant Calendar s = is_number (be_at s 22 2)
-number_meant Offset s = is_number (be_at s 22 2)
-number_meant CalendarAndOffset s = is_number (be_at s 22 2)
+abbrev pub number_meant : Template → List ℕ → Option ℕ
+number_meant no_template s = None
+number_meant Calendar s = Some (be_at s 22 2)
+number_meant Offset s = Some (be_at s 22 2)
+number_meant CalendarAndOffset s = Some (be_at s 22 2)
 
 -- octet 24, in 1.0 and 1.2
-abbrev pub calendar_meant : Template → List ℕ → CalendarCode
-calendar_meant no_template s = no_calendar
-calendar_meant Calendar s = is_calendar (be_at s 24 1)
-calendar_meant Offset s = no_calendar
-calendar_meant CalendarAndOffset s = is_calendar (be_at s 24 1)
+abbrev pub calendar_meant : Template → List ℕ → Option ℕ
+calendar_meant no_template s = None
+calendar_meant Calendar s = Some (be_at s 24 1)
+calendar_meant Offset s = None
+calendar_meant CalendarAndOffset s = Some (be_at s 24 1)
 
 -- signed: octets 24-25 of 1.1, and 25-26 of 1.2
-abbrev pub offset_meant : Template → List ℕ → YearOffset
-offset_meant no_template s = no_offset
-offset_meant Calendar s = no_offset
-offset_meant Offset s = is_offset (sign_of 2 (be_at s 24 2))
-offset_meant CalendarAndOffset s = is_offset (sign_of 2 (be_at s 25 2))
+abbrev pub offset_meant : Template → List ℕ → Option ℤ
+offset_meant no_template s = None
+offset_meant Calendar s = None
+offset_meant Offset s = Some (sign_of 2 (be_at s 24 2))
+offset_meant CalendarAndOffset s = Some (sign_of 2 (be_at s 25 2))
 
 -- the year, and with an offset year + 10,000 x offset
 abbrev pub real_year_meant : Template → List ℕ → ℤ

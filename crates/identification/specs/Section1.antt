@@ -1,22 +1,14 @@
--- Section 1, as document 01 has it: its fields, its outcome, and what a program's answer says.
+-- Section 1, as document 01 has it: its fields, its outcome, and what a program's record says.
 -- Assumes nothing.
-use Rattle.std.specs.Prelude.{ℕ, zero, suc, List, [], ◌∷◌, ◌++◌, cond, length, get_or, eqb, ℤ, pos}
+use Rattle.std.specs.Prelude.{ℕ, zero, suc, List, [], ◌∷◌, ◌++◌, cond, length, get_or, eqb, ℤ, pos, Option, Some, None, Result, Ok, Err}
 use Rattle.octets.specs.Octets.{be_at, sign_of, real_year}
 use Rattle.layout.specs.Fields.{Value, none, is, plain, whole_in, natural_in, Meaning, unsigned, signed, Field, held, not_ones, raw, signed_present, lacking, after, bad_place, values_of}
-use Rattle.layout.specs.Outcomes.{Outcome, refused, read, refused_by, reason, first_of, opening_reasons, template_reasons, no_refusal}
+use Rattle.layout.specs.Outcomes.{Outcome, refused, read, refusal, reason, first_of, opening_reasons, template_reasons}
 use Rattle.layout.specs.Time.{time, time_in}
 use Rattle.layout.specs.declared.Refusal.{Refusal}
 use Rattle.identification.specs.declared.Template.{Template}
 use Rattle.identification.specs.declared.Template.TheVariants.{None as no_template, Calendar, Offset, CalendarAndOffset}
-use Rattle.identification.specs.declared.TemplateNumber.{TemplateNumber}
-use Rattle.identification.specs.declared.TemplateNumber.TheVariants.{None as no_number, Is as is_number}
-use Rattle.identification.specs.declared.CalendarCode.{CalendarCode}
-use Rattle.identification.specs.declared.CalendarCode.TheVariants.{None as no_calendar, Is as is_calendar}
-use Rattle.identification.specs.declared.YearOffset.{YearOffset}
-use Rattle.identification.specs.declared.YearOffset.TheVariants.{None as no_offset, Is as is_offset}
 use Rattle.identification.specs.declared.Identification.{Identification}
-use Rattle.identification.specs.declared.Answer.{Answer}
-use Rattle.identification.specs.declared.Answer.TheVariants.{Read, Refused}
 
 -- ---- the fields
 
@@ -115,21 +107,33 @@ by_template s = cond (eqb (length s) 21) (as_template no_template s) (by_number 
 unfoldable pub outcome₁ : List ℕ → Outcome
 outcome₁ s = first_of 1 (opening_reasons 1 21 s) (first_of 1 (reason 5 (eqb (length s) 22) ∷ []) (by_template s))
 
--- ---- what a program's answer says
+-- ---- what a program says of the template, and of a record
 
-abbrev pub number_in : TemplateNumber → Value
-number_in no_number = none
-number_in (is_number n) = plain n
+-- the template that octets 22-23 are the number of, or 6
+unfoldable pub listed_template : ℕ → Result Template Refusal
+listed_template zero = Ok Calendar
+listed_template (suc zero) = Ok Offset
+listed_template (suc (suc zero)) = Ok CalendarAndOffset
+listed_template (suc (suc (suc n))) = Err (refusal 6 1 0)
 
-abbrev pub calendar_in : CalendarCode → Value
-calendar_in no_calendar = none
-calendar_in (is_calendar n) = plain n
+-- of a section; 22 octets have one of these two only, which is 5, and 21 octets have no template
+unfoldable pub template_of : List ℕ → Result Template Refusal
+template_of s =
+    cond (eqb (length s) 22) (Err (refusal 5 1 0)) (cond (eqb (length s) 21) (Ok no_template) (listed_template (be_at s 22 2)))
 
-abbrev pub offset_in : YearOffset → Value
-offset_in no_offset = none
-offset_in (is_offset z) = is z
+abbrev pub number_in : Option ℕ → Value
+number_in None = none
+number_in (Some n) = plain n
 
-abbrev pub template_in : TemplateNumber → CalendarCode → YearOffset → ℤ → List Value
+abbrev pub calendar_in : Option ℕ → Value
+calendar_in None = none
+calendar_in (Some n) = plain n
+
+abbrev pub offset_in : Option ℤ → Value
+offset_in None = none
+offset_in (Some z) = is z
+
+abbrev pub template_in : Option ℕ → Option ℕ → Option ℤ → ℤ → List Value
 template_in number calendar offset real = number_in number ∷ calendar_in calendar ∷ offset_in offset ∷ is real ∷ []
 
 unfoldable pub values_in : Identification → List Value
@@ -146,12 +150,3 @@ values_in x =
     ++ (plain x.status
     ∷ plain x.data_type
     ∷ template_in x.template x.calendar x.offset x.real_year))
-
-unfoldable pub told : Answer → Outcome
-told (Read x) = read (values_in x)
-told (Refused x) = refused_by x
-
--- the refusal of an answer that is one; of none, zeros
-abbrev pub refusal_in : Answer → Refusal
-refusal_in (Refused x) = x
-refusal_in (Read x) = no_refusal
