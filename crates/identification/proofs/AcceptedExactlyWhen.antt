@@ -115,46 +115,7 @@ follows-accepted template s f =
     let long : 21 ≤ length s = omega (arith, between.0) in
     let headed : Headed 1 s = record { long = omega arith; small = omega (arith, between.1); says-length = f.says-length; says-number = f.says-number } in
     let not-22 = none_last 1 (reason 5 (eqb (length s) 22) ∷ []) (by_template s) (ne_eqb _ _ (λ e. total-not-22 template (sym l ∙ e)), tt) in
-    let fine : AllAllowed (after 0 (fields₁ template)) s = (
-      refl,
-      (
-        refl,
-        (
-          refl,
-          (
-            refl,
-            (
-              refl,
-              (
-                refl,
-                (
-                  refl,
-                  (
-                    differs-test _ _ f.year,
-                    (
-                      in_between 1 12 _ f.month,
-                      (
-                        in_between 1 31 _ f.day,
-                        (
-                          in_between 0 23 _ (omega arith, f.hour),
-                          (
-                            in_between 0 59 _ (omega arith, f.minute),
-                            (
-                              in_between 0 59 _ (omega arith, f.second),
-                              (refl, (refl, in-offset template s f.offset)),
-                            ),
-                          ),
-                        ),
-                      ),
-                    ),
-                  ),
-                ),
-              ),
-            ),
-          ),
-        ),
-      ),
-    ) in
+    let fine : AllAllowed (after 0 (fields₁ template)) s = search (differs-test _ _ f.year, in_between 1 12 _ f.month, in_between 1 31 _ f.day, in_between 0 23 _ (omega arith, f.hour), in_between 0 59 _ (omega arith, f.minute), in_between 0 59 _ (omega arith, f.second), in-offset template s f.offset) in
     let fits : Fits (total template) (bad_place (after 0 (fields₁ template)) s) 0 (total template) s = record { enough = omega arith; in-range = none-bad _ s fine; own-kept = refl; whole = l } in
     opening-last 1 s _ 21 headed long ∙ not-22 ∙ read_by template s (template-named template s l f.names) ∙ template-last 1 s (read (values₁ template s)) _ _ _ _ fits
 
