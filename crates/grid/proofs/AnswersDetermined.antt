@@ -1,21 +1,22 @@
 -- Any two answers that `read`'s contract allows for a section are one answer.
 -- Assumes nothing.
 use Prim.Native.Nat.{ℕ, zero, suc}
-use mathlib.Core.Path.{◌≡◌, refl, ap}
+use mathlib.Core.Path.{◌≡◌, refl}
 use mathlib.Core.List.{List}
 use lib.ListN.{get_or, drop}
 use Rattle.layout.specs.Fields.{Value, none, whole_in, natural_in}
+use Rattle.layout.specs.Outcomes.{told}
+use Rattle.layout.specs.declared.Refusal.{Refusal}
 use Rattle.layout.proofs.Untold.{to32, back32, told_back, one_answer}
 use Rattle.grid.specs.Blocks.{values_in, earth_size_in, earth_in, common_in, pole_in, poles_in}
-use Rattle.grid.specs.Section3.{told, outcome₃}
+use Rattle.grid.specs.Section3.{outcome₃}
 use Rattle.grid.specs.declared.blocks.EarthSize.{EarthSize}
 use Rattle.grid.specs.declared.blocks.Common.{Common}
 use Rattle.grid.specs.declared.blocks.Pole.{Pole}
 use Rattle.grid.specs.declared.blocks.Poles.{Poles}
 use Rattle.grid.specs.declared.blocks.Poles.TheVariants.{None as no_poles, Rotated as is_rotated, Stretched as is_stretched, StretchedAndRotated as is_both}
 use Rattle.grid.specs.declared.blocks.Grid.{Grid}
-use Rattle.grid.specs.declared.Answer.{Answer}
-use Rattle.grid.specs.declared.Answer.TheVariants.{Read, Refused}
+use Rattle.std.specs.Prelude.{Result}
 
 -- ---- blocks of values
 
@@ -89,6 +90,5 @@ pub same-record : (x y : Grid) → values_in x ≡ values_in y → x ≡ y
 same-record = told_back values_in to_grid grid-back
 
 -- and two answers that say the same are one answer
-pub determined : (s : List ℕ) (a b : Answer) → told a ≡ outcome₃ s → told b ≡ outcome₃ s → a ≡ b
-unfolding told
-determined s = one_answer told Refused Read to_grid (elim [ Refused x ↦ refl | Read x ↦ ap Read (grid-back x) ]) (outcome₃ s)
+pub determined : (s : List ℕ) (a b : Result Grid Refusal) → told values_in a ≡ outcome₃ s → told values_in b ≡ outcome₃ s → a ≡ b
+determined s = one_answer values_in to_grid grid-back (outcome₃ s)

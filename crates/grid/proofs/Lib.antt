@@ -11,3 +11,4 @@ pub mod ShortOrLong
 pub mod MeansByName
 pub mod WithoutTwelve
 pub mod OffsetRows
+pub mod Reading

@@ -8,20 +8,20 @@ use lib.ListN.{length, drop}
 use lib.Dec.{ltb}
 use Rattle.octets.specs.Octets.{be_at}
 use Rattle.layout.specs.Fields.{placed, after, bad_place}
-use Rattle.layout.specs.Outcomes.{read, first_of}
+use Rattle.layout.specs.Outcomes.{read, first_of, told}
 use Rattle.layout.specs.Refusals.{one_of, has_place, Listed}
 use Rattle.layout.specs.declared.Refusal.{Refusal}
 use Rattle.layout.proofs.Outcomes.{either}
 use Rattle.layout.proofs.Refusals.{Refuses, refusal-listed, reason-refuses, opening-refuses, template-refuses, stand_within, bad-within}
-use Rattle.grid.specs.Blocks.{grid_head, earth_size, earth, counts, corners, common, pole, poles}
+use Rattle.grid.specs.Blocks.{grid_head, earth_size, earth, counts, corners, common, pole, poles, values_in}
 use Rattle.grid.specs.Templates.{template_named, base_end, fields₃, total, values₃}
 use Rattle.grid.specs.Agreement.{agreed, disagreement}
 use Rattle.grid.specs.Points.{points_reasons}
-use Rattle.grid.specs.Section3.{as_template, outcome₃, told}
+use Rattle.grid.specs.Section3.{as_template, outcome₃}
 use Rattle.grid.specs.Refused.{numbers₃, table₃}
 use Rattle.grid.specs.declared.templates.Template.{Template}
 use Rattle.grid.specs.declared.templates.Template.TheVariants.{LatLon, Rotated, Stretched, StretchedAndRotated}
-use Rattle.grid.specs.declared.Answer.TheVariants.{Refused}
+use Rattle.std.specs.Prelude.{Err}
 
 -- the fields with a rule stand within the base
 pub within₃ : (template : Template) (n : ℕ) → stand_within (base_end template) (placed 0 5 (drop 1 (fields₃ template n))) ≡ true
@@ -52,6 +52,5 @@ refuses₃ s =
     opening-refuses table₃ 3 14 s _ refl
     (λ small. reason-refuses table₃ 3 6 (ltb 3 (be_at s 13 2)) (as_template (template_named s) s) refl refl (as-template (template_named s) s small))
 
-pub grid-refuses : (s : List ℕ) (x : Refusal) → told (Refused x) ≡ outcome₃ s → Listed table₃ x
-unfolding told
+pub grid-refuses : (s : List ℕ) (x : Refusal) → told values_in (Err x) ≡ outcome₃ s → Listed table₃ x
 grid-refuses s x e = refusal-listed table₃ (outcome₃ s) x (refuses₃ s) e

@@ -16,9 +16,9 @@ use Rattle.grid.specs.declared.templates.Template.{Template}
 use Rattle.grid.specs.declared.templates.Template.TheVariants.{LatLon, Rotated, Stretched, StretchedAndRotated}
 
 -- 1, 2 and 4, and no other
-pub no-list : (width : ℕ) → (width ≡ 1 → ⊥) → (width ≡ 2 → ⊥) → (width ≡ 4 → ⊥) → has_list width ≡ false
+pub no_list : (width : ℕ) → (width ≡ 1 → ⊥) → (width ≡ 2 → ⊥) → (width ≡ 4 → ⊥) → has_list width ≡ false
 unfolding has_list
-no-list width a b c = simp (ne_eqb _ _ a, ne_eqb _ _ b, ne_eqb _ _ c)
+no_list width a b c = simp (ne_eqb _ _ a, ne_eqb _ _ b, ne_eqb _ _ c)
 
 pub which-width : (width : ℕ) → has_list width ≡ true → (width ≡ 1) ⊎ ((width ≡ 2) ⊎ (width ≡ 4))
 unfolding has_list
@@ -44,12 +44,15 @@ listed-not-0 width e = by-test (eqb width 0) refl
     by-test true h = let g = rw (eqb-true width 0 h) at e in let z : ◌≡◌ {A = ℕ} 0 1 = cc in absurd (omega arith)
 
 -- numbers that agree and a width that is not 0: there is a list
-pub agreed-list : (s : List ℕ) → agreed s ≡ true → (list_width s ≡ 0 → ⊥) → has_list (list_width s) ≡ true
+pub agreed_list : (s : List ℕ) → agreed s ≡ true → (list_width s ≡ 0 → ⊥) → has_list (list_width s) ≡ true
 unfolding agreed
-agreed-list s e h = (both_hold _ _ (rw (ne_eqb _ _ h) at e)).0
+agreed_list s e h = (both_hold _ _ (rw (ne_eqb _ _ h) at e)).0
 
 pub base-between : (template : Template) → (72 ≤ base_end template) × (base_end template ≤ 96)
 base-between LatLon = (omega arith, omega arith)
 base-between Rotated = (omega arith, omega arith)
 base-between Stretched = (omega arith, omega arith)
 base-between StretchedAndRotated = (omega arith, omega arith)
+
+pub base_small : (template : Template) → base_end template ≤ 96
+base_small template = (base-between template).1

@@ -1,17 +1,13 @@
--- Section 3, as document 01 has it: its outcome, and what a program's answer says.
+-- Section 3, as document 01 has it: its outcome.
 -- Assumes nothing.
 use Rattle.std.specs.Prelude.{ℕ, List, [], ◌∷◌, ltb}
 use Rattle.octets.specs.Octets.{be_at}
 use Rattle.layout.specs.Fields.{after, bad_place}
-use Rattle.layout.specs.Outcomes.{Outcome, read, refused_by, reason, first_of, opening_reasons, template_reasons, no_refusal}
-use Rattle.layout.specs.declared.Refusal.{Refusal}
-use Rattle.grid.specs.Blocks.{values_in}
+use Rattle.layout.specs.Outcomes.{Outcome, read, reason, first_of, opening_reasons, template_reasons}
 use Rattle.grid.specs.Templates.{template_named, base_end, fields₃, list_octets, total, values₃}
 use Rattle.grid.specs.Agreement.{disagreement}
 use Rattle.grid.specs.Points.{points_reasons}
 use Rattle.grid.specs.declared.templates.Template.{Template}
-use Rattle.grid.specs.declared.Answer.{Answer}
-use Rattle.grid.specs.declared.Answer.TheVariants.{Read, Refused}
 
 -- 7, 8, 10 and the total's 11 and 21, once the template is known, and then the points
 unfoldable pub as_template : Template → List ℕ → Outcome
@@ -22,14 +18,3 @@ as_template template s =
 -- 5: under 14 octets; 6: the template number is above 3
 unfoldable pub outcome₃ : List ℕ → Outcome
 outcome₃ s = first_of 3 (opening_reasons 3 14 s) (first_of 3 (reason 6 (ltb 3 (be_at s 13 2)) ∷ []) (as_template (template_named s) s))
-
--- ---- what a program's answer says
-
-unfoldable pub told : Answer → Outcome
-told (Read x) = read (values_in x)
-told (Refused x) = refused_by x
-
--- the refusal of an answer that is one; of none, zeros
-abbrev pub refusal_in : Answer → Refusal
-refusal_in (Refused x) = x
-refusal_in (Read x) = no_refusal

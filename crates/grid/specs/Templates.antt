@@ -1,8 +1,10 @@
 -- Section 3's templates: their fields, the list behind the base, and the total.
 -- Assumes nothing.
-use Rattle.std.specs.Prelude.{ℕ, zero, suc, ◌+◌, ◌*◌, List, [], ◌∷◌, ◌++◌, Bool, cond, eqb}
+use Rattle.std.specs.Prelude.{ℕ, zero, suc, ◌+◌, ◌*◌, List, [], ◌∷◌, ◌++◌, Bool, cond, eqb, Result, Ok, Err}
 use Rattle.octets.specs.Octets.{be_at, all_ones}
 use Rattle.layout.specs.Fields.{Value, Field, shown, after, values_of}
+use Rattle.layout.specs.Outcomes.{refusal}
+use Rattle.layout.specs.declared.Refusal.{Refusal}
 use Rattle.grid.specs.Blocks.{grid_head, common, poles}
 use Rattle.grid.specs.declared.templates.Template.{Template}
 use Rattle.grid.specs.declared.templates.Template.TheVariants.{LatLon, Rotated, Stretched, StretchedAndRotated}
@@ -17,6 +19,14 @@ template_numbered (suc (suc (suc n))) = StretchedAndRotated
 -- the one that a section names in octets 13-14
 abbrev pub template_named : List ℕ → Template
 template_named s = template_numbered (be_at s 13 2)
+
+-- what a program says of a number: its template, or 6
+unfoldable pub listed_template : ℕ → Result Template Refusal
+listed_template zero = Ok LatLon
+listed_template (suc zero) = Ok Rotated
+listed_template (suc (suc zero)) = Ok Stretched
+listed_template (suc (suc (suc zero))) = Ok StretchedAndRotated
+listed_template (suc (suc (suc (suc n)))) = Err (refusal 6 3 0)
 
 -- the last octet of the base
 abbrev pub base_end : Template → ℕ

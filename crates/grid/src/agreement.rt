@@ -1,28 +1,18 @@
 // 10: the width, Ni, Nj, Di, Dj and octet 12 agree.
 ghost use Rattle.std.specs.Prelude.{◌≡◌};
-ghost use Rattle.grid.specs.Agreement.{missing_with, agreed_without_list, agreed_with_list, agreed, disagreement};
+ghost use Rattle.grid.specs.Agreement.{missing_with, agreed_without_list, agreed_with_list, agreed};
 
 use crate::templates::{has_list, missing};
 
-// 10 where they do not agree, and else 0.
-pub(crate) fn disagreement(section: &[u8]) -> u8
-    ensures { result ≡ disagreement section.now }
-{
-    if agrees(section) { 0 } else { 10 }
-}
-
 #[tactic(auto, unfolding(crate::specs::Agreement::agreed))]
-fn agrees(section: &[u8]) -> bool
+pub(crate) fn agrees(section: &[u8]) -> bool
     ensures { result ≡ agreed section.now }
 {
     let width = octets::u8_at(section, 11);
     if width == 0 {
         return agrees_without_list(section);
     }
-    if !has_list(width) {
-        return false;
-    }
-    agrees_with_list(section)
+    has_list(width) && agrees_with_list(section)
 }
 
 // Ni and Nj both present, octet 12 is 0.
@@ -30,13 +20,7 @@ fn agrees(section: &[u8]) -> bool
 fn agrees_without_list(section: &[u8]) -> bool
     ensures { result ≡ agreed_without_list section.now }
 {
-    if octets::u8_at(section, 12) != 0 {
-        return false;
-    }
-    if missing(section, 31) {
-        return false;
-    }
-    !missing(section, 35)
+    octets::u8_at(section, 12) == 0 && !missing(section, 31) && !missing(section, 35)
 }
 
 // Exactly one of Ni and Nj missing, its increment (Di for Ni) missing too, octet 12 is 1 or 2.
@@ -44,17 +28,8 @@ fn agrees_without_list(section: &[u8]) -> bool
 fn agrees_with_list(section: &[u8]) -> bool
     ensures { result ≡ agreed_with_list section.now }
 {
-    let interpretation = octets::u8_at(section, 12);
-    if interpretation < 1 {
-        return false;
-    }
-    if 2 < interpretation {
-        return false;
-    }
-    if missing_with(section, 31, 64, 35) {
-        return true;
-    }
-    missing_with(section, 35, 68, 31)
+    (1..=2).contains(&octets::u8_at(section, 12))
+        && (missing_with(section, 31, 64, 35) || missing_with(section, 35, 68, 31))
 }
 
 // The count at octet `absent` is missing and its increment too, and the count at octet `counted` is not.
@@ -62,11 +37,5 @@ fn agrees_with_list(section: &[u8]) -> bool
 fn missing_with(section: &[u8], absent: usize, increment: usize, counted: usize) -> bool
     ensures { result ≡ missing_with absent increment counted section.now }
 {
-    if !missing(section, absent) {
-        return false;
-    }
-    if !missing(section, increment) {
-        return false;
-    }
-    !missing(section, counted)
+    missing(section, absent) && missing(section, increment) && !missing(section, counted)
 }

@@ -5,17 +5,16 @@ ghost use Rattle.grid.specs.Blocks.{earth_size, earth, common, pole, poles, eart
 ghost use Rattle.grid.specs.Templates.{values₃};
 
 use crate::templates::Template;
-use layout::U32OrMissing;
 
 // A number of the earth's size, by its scale factor.
-#[derive(Clone, Copy)]
+#[derive(Clone, Copy, PartialEq, Eq)]
 pub struct EarthSize {
-    pub factor: U32OrMissing,
-    pub value: U32OrMissing,
+    pub factor: Option<u32>,
+    pub value: Option<u32>,
 }
 
 // Octets 15 to 30.
-#[derive(Clone, Copy)]
+#[derive(Clone, Copy, PartialEq, Eq)]
 pub struct Earth {
     pub shape: u8,
     pub radius: EarthSize,
@@ -24,25 +23,25 @@ pub struct Earth {
 }
 
 // Octets 15 to 72, the same in all four templates.
-#[derive(Clone, Copy)]
+#[derive(Clone, Copy, PartialEq, Eq)]
 pub struct Common {
     pub earth: Earth,
-    pub ni: U32OrMissing,
-    pub nj: U32OrMissing,
+    pub ni: Option<u32>,
+    pub nj: Option<u32>,
     pub basic_angle: u32,
-    pub subdivisions: U32OrMissing,
+    pub subdivisions: Option<u32>,
     pub la1: i32,
     pub lo1: i32,
     pub component_flags: u8,
     pub la2: i32,
     pub lo2: i32,
-    pub di: U32OrMissing,
-    pub dj: U32OrMissing,
+    pub di: Option<u32>,
+    pub dj: Option<u32>,
     pub scanning_mode: u8,
 }
 
 // The southern pole of projection with the angle of rotation, or the pole of stretching with the stretching factor.
-#[derive(Clone, Copy)]
+#[derive(Clone, Copy, PartialEq, Eq)]
 pub struct Pole {
     pub latitude: i32,
     pub longitude: i32,
@@ -50,7 +49,7 @@ pub struct Pole {
 }
 
 // What a template has behind octet 72. Where it has both, the pole of projection comes first.
-#[derive(Clone, Copy)]
+#[derive(Clone, Copy, PartialEq, Eq)]
 pub enum Poles {
     None,
     Rotated(Pole),
@@ -59,7 +58,7 @@ pub enum Poles {
 }
 
 // Every field once.
-#[derive(Clone, Copy)]
+#[derive(Clone, Copy, PartialEq, Eq)]
 pub struct Grid {
     pub length: u32,
     pub number: u8,
@@ -83,6 +82,7 @@ impl Grid {
     pub const END_3_3: usize = 96;
 
     // The record of a section that follows its template.
+    #[tactic(auto, using(crate::proofs::Reading::values_by_part), unfolding(crate::specs::Blocks::values_in))]
     pub(crate) fn of_section(section: &[u8], template: Template) -> Self
         ensures { values_in result ≡ values₃ template section.now }
     {
@@ -112,26 +112,28 @@ fn template_part(section: &[u8]) -> &[u8]
 }
 
 // Octets 15 to 72, which are octets 1 to 58 of the part.
+#[tactic(auto, using(octets::proofs::Signs::kept32), unfolding(layout::specs::Fields::placed, layout::specs::Fields::values_of, crate::specs::Blocks::earth_size, crate::specs::Blocks::earth, crate::specs::Blocks::counts, crate::specs::Blocks::corners, crate::specs::Blocks::common, crate::specs::Blocks::common_in))]
 fn read_common(part: &[u8]) -> Common
     ensures { common_in result ≡ values_of (after 0 common) part.now }
 {
     Common {
         earth: read_earth(part),
-        ni: layout::u32_or_missing(part, 17),
-        nj: layout::u32_or_missing(part, 21),
+        ni: layout::or_missing::<u32>(part, 17),
+        nj: layout::or_missing::<u32>(part, 21),
         basic_angle: octets::u32_at(part, 25),
-        subdivisions: layout::u32_or_missing(part, 29),
+        subdivisions: layout::or_missing::<u32>(part, 29),
         la1: octets::signed32_at(part, 33),
         lo1: octets::signed32_at(part, 37),
         component_flags: octets::u8_at(part, 41),
         la2: octets::signed32_at(part, 42),
         lo2: octets::signed32_at(part, 46),
-        di: layout::u32_or_missing(part, 50),
-        dj: layout::u32_or_missing(part, 54),
+        di: layout::or_missing::<u32>(part, 50),
+        dj: layout::or_missing::<u32>(part, 54),
         scanning_mode: octets::u8_at(part, 58),
     }
 }
 
+#[tactic(auto, unfolding(layout::specs::Fields::placed, layout::specs::Fields::values_of, crate::specs::Blocks::earth_size, crate::specs::Blocks::earth, crate::specs::Blocks::earth_in))]
 fn read_earth(part: &[u8]) -> Earth
     ensures { earth_in result ≡ values_of (after 0 earth) part.now }
 {
@@ -143,17 +145,19 @@ fn read_earth(part: &[u8]) -> Earth
     }
 }
 
+#[tactic(auto, unfolding(layout::specs::Fields::placed, layout::specs::Fields::values_of, crate::specs::Blocks::earth_size, crate::specs::Blocks::earth_size_in))]
 fn read_earth_size(part: &[u8], end: u32) -> EarthSize
     ensures { earth_size_in result ≡ values_of (after end earth_size) part.now }
 {
     let before = end as usize;
     EarthSize {
-        factor: layout::u8_or_missing(part, before + 1),
-        value: layout::u32_or_missing(part, before + 2),
+        factor: layout::or_missing::<u8>(part, before + 1),
+        value: layout::or_missing::<u32>(part, before + 2),
     }
 }
 
 // Octets 73 to the end of the base, which follow octet 58 of the part.
+#[tactic(auto, unfolding(layout::specs::Fields::placed, layout::specs::Fields::values_of, crate::specs::Blocks::pole, crate::specs::Blocks::poles, crate::specs::Blocks::poles_in))]
 fn read_poles(part: &[u8], template: Template) -> Poles
     ensures { poles_in result ≡ values_of (after 58 (poles template)) part.now }
 {
@@ -167,6 +171,7 @@ fn read_poles(part: &[u8], template: Template) -> Poles
     }
 }
 
+#[tactic(auto, using(octets::proofs::Signs::kept32), unfolding(layout::specs::Fields::placed, layout::specs::Fields::values_of, crate::specs::Blocks::pole, crate::specs::Blocks::pole_in))]
 fn read_pole(part: &[u8], end: u32) -> Pole
     ensures { pole_in result ≡ values_of (after end pole) part.now }
 {

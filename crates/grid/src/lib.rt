@@ -1,18 +1,21 @@
 // Section 3: the grid, templates 3.0 to 3.3, and the list behind it.
 #![tactic(auto)]
 
-ghost use Rattle.std.specs.Prelude.{◌≡◌};
-ghost use Rattle.grid.specs.Section3.{outcome₃, as_template, told, refusal_in};
+ghost use Rattle.std.specs.Prelude.{◌≡◌, IfOk};
+ghost use Rattle.layout.specs.Outcomes.{told};
+ghost use Rattle.grid.specs.Blocks.{values_in};
+ghost use Rattle.grid.specs.Templates.{template_named, values₃};
+ghost use Rattle.grid.specs.Section3.{outcome₃};
 
-use agreement::disagreement;
-use bad_field::bad_place;
+use agreement::agrees;
+use fields::check_fields;
 use layout::Refusal;
-use points::points_refusal;
-use templates::{base_end, template_numbered, total_of};
+use points::check_points;
+use templates::{base_end, total_of};
 
 mod agreement;
-mod bad_field;
 mod blocks;
+mod fields;
 mod points;
 mod templates;
 mod views;
@@ -21,54 +24,30 @@ pub use blocks::{Common, Earth, EarthSize, Grid, Pole, Poles};
 pub use templates::Template;
 pub use views::{list, list_span};
 
-#[derive(Clone, Copy)]
-pub enum Answer {
-    Read(Grid),
-    Refused(Refusal),
-}
-
 // Reads a lent section 3, or refuses it with 1 to 8, 10, 11, 21 or 13.
-pub fn read(section: &[u8]) -> Answer
-    ensures { told result ≡ outcome₃ section.now }
+pub fn read(section: &[u8]) -> Result<Grid, Refusal>
+    ensures { told values_in result ≡ outcome₃ section.now }
 {
-    let refused = layout::opening_refusal(section, 3, 14);
-    if refused.number != 0 {
-        return Answer::Refused(refused);
-    }
-    let number = octets::u16_at(section, 13);
-    if 3 < number {
-        return Answer::Refused(Refusal::of(6, 3));
-    }
-    read_as(section, template_numbered(number))
+    let template = accept(section)?;
+    Ok(Grid::of_section(section, template))
 }
 
-// The refusal of an answer that is one, for a caller to hand on.
-pub fn refusal_of(answer: Answer) -> Refusal
-    ensures { result ≡ refusal_in answer }
+// The template that a section follows, or why it is refused. The list is summed up only where the section has its total.
+#[tactic(auto, using(crate::proofs::Reading::read_in_steps, crate::proofs::Reading::listed_numbered))]
+fn accept(section: &[u8]) -> Result<Template, Refusal>
+    ensures outcome { told (λ template. values₃ template section.now) result ≡ outcome₃ section.now }
+    ensures named { IfOk result (λ template. template ≡ template_named section.now) }
 {
-    match answer {
-        Answer::Refused(x) => x,
-        Answer::Read(_) => Refusal::none(),
-    }
-}
-
-// The rest of the reading, once the template is known. The list is summed up only where the section has its total.
-fn read_as(section: &[u8], template: Template) -> Answer
-    ensures { told result ≡ as_template template section.now }
-{
+    layout::check_opening(section, 3, 14)?;
+    let template = Template::try_from(octets::u16_at(section, 13))?;
     if section.len() < base_end(template) {
-        return Answer::Refused(Refusal::of(7, 3));
+        return Err(Refusal::of(7, 3));
     }
-    let bad = bad_place(section, template);
-    let own = disagreement(section);
-    let total = total_of(section, template);
-    let refused = layout::fitting_refusal(section, 3, bad, own, total);
-    if refused.number != 0 {
-        return Answer::Refused(refused);
+    check_fields(section, template)?;
+    if !agrees(section) {
+        return Err(Refusal::of(10, 3));
     }
-    let by_points = points_refusal(section, template);
-    if by_points.number != 0 {
-        return Answer::Refused(by_points);
-    }
-    Answer::Read(Grid::of_section(section, template))
+    layout::check_total(section, 3, total_of(section, template))?;
+    check_points(section, template)?;
+    Ok(template)
 }

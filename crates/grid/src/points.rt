@@ -9,18 +9,20 @@ ghost use Rattle.grid.specs.Points.{sum_of, points_without_list, points_of, poin
 use crate::templates::{Template, base_end, list_count};
 use layout::Refusal;
 
-// 13 if it is met, of numbers that agree; what it answers of others is of no use: they are refused before.
+// Of numbers that agree; what it answers of others is of no use: they are refused before.
 #[tactic(auto, unfolding(layout::specs::Outcomes::first_refusal))]
-pub(crate) fn points_refusal(section: &[u8], template: Template) -> Refusal
+pub(crate) fn check_points(section: &[u8], template: Template) -> Result<(), Refusal>
     ensures { agreed section.now ≡ true → result ≡ first_refusal 3 (points_reasons template section.now) }
 {
-    if octets::u32_at(section, 7) as u64 != points_of(section, template) {
-        return Refusal::of(13, 3);
+    if octets::u32_at(section, 7) as u64 == points_of(section, template) {
+        Ok(())
+    } else {
+        Err(Refusal::of(13, 3))
     }
-    Refusal::none()
 }
 
 // What octets 7-10 have to be: the sum of the list, or what they have to be without one.
+#[tactic(auto, using(crate::proofs::Widths::base_small, crate::proofs::Widths::agreed_list), unfolding(crate::specs::Points::points_of))]
 fn points_of(section: &[u8], template: Template) -> u64
     ensures { agreed section.now ≡ true → result ≡ points_of template section.now }
 {
@@ -56,19 +58,17 @@ fn points_without_list(section: &[u8]) -> u64
 fn list_sum(section: &[u8], end: u32, width: u8, count: u32) -> u64
     ensures { has_list width ≡ true → result ≡ sum_of end width section.now count }
 {
+    let first = end as usize + 1;
     let step = width as usize;
-    let mut at = end as usize + 1;
     let mut sum: u64 = 0;
-    let mut i: u32 = 0;
-    while i < count {
-        sum += listed_at(section, at, width) as u64;
-        at += step;
-        i += 1;
+    for i in 0..count {
+        sum += listed_at(section, first + step * (i as usize), width) as u64;
     }
     sum
 }
 
 // The number of a list from octet `at` on.
+#[tactic(auto, using(crate::proofs::Widths::no_list))]
 fn listed_at(section: &[u8], at: usize, width: u8) -> u32
     ensures { has_list width ≡ true → result ≡ be_at section.now at width }
 {

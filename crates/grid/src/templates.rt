@@ -2,12 +2,13 @@
 ghost use Rattle.std.specs.Prelude.{◌≡◌};
 ghost use Rattle.octets.specs.Octets.{be_at};
 ghost use Rattle.grid.specs.Blocks.{has_list};
-ghost use Rattle.grid.specs.Templates.{template_numbered, base_end, is_missing, list_count, total};
+ghost use Rattle.grid.specs.Templates.{listed_template, base_end, is_missing, list_count, total};
 
 use crate::blocks::Grid;
+use layout::Refusal;
 
 // 3.0, 3.1, 3.2 and 3.3: latitude and longitude, rotated, stretched, or both.
-#[derive(Clone, Copy)]
+#[derive(Clone, Copy, PartialEq, Eq)]
 pub enum Template {
     LatLon,
     Rotated,
@@ -15,16 +16,21 @@ pub enum Template {
     StretchedAndRotated,
 }
 
-// The template of a listed number.
-#[tactic(auto, unfolding(crate::specs::Templates::template_numbered))]
-pub(crate) fn template_numbered(number: u16) -> Template
-    ensures { result ≡ template_numbered number }
-{
-    match number {
-        0 => Template::LatLon,
-        1 => Template::Rotated,
-        2 => Template::Stretched,
-        _ => Template::StretchedAndRotated,
+// By its number, or 6.
+impl TryFrom<u16> for Template {
+    type Error = Refusal;
+
+    ghost try_from_gives = { λ number result. result ≡ listed_template number };
+
+    #[tactic(auto, using(crate::proofs::Reading::unlisted), unfolding(crate::specs::Templates::listed_template))]
+    fn try_from(number: u16) -> Result<Self, Refusal> {
+        match number {
+            0 => Ok(Template::LatLon),
+            1 => Ok(Template::Rotated),
+            2 => Ok(Template::Stretched),
+            3 => Ok(Template::StretchedAndRotated),
+            _ => Err(Refusal::of(6, 3)),
+        }
     }
 }
 
@@ -45,12 +51,7 @@ pub(crate) fn base_end(template: Template) -> usize
 pub(crate) fn has_list(width: u8) -> bool
     ensures { result ≡ has_list width }
 {
-    match width {
-        1 => true,
-        2 => true,
-        4 => true,
-        _ => false,
-    }
+    matches!(width, 1 | 2 | 4)
 }
 
 // Whether the four octets from octet `at` on are all ones.

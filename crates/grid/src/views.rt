@@ -2,19 +2,18 @@
 ghost use Rattle.std.specs.Prelude.{◌≡◌};
 ghost use Rattle.grid.specs.Views.{list_span, list₃};
 
-use crate::templates::{base_end, template_numbered, total_of};
-use crate::{Answer, read};
+use crate::accept;
+use crate::templates::{base_end, total_of};
 use layout::Span;
 
 // Where the list stands, which is nowhere where the section is refused or has no list.
+#[tactic(auto, unfolding(crate::specs::Views::list_span, layout::specs::Outcomes::if_read))]
 pub fn list_span(section: &[u8]) -> Span
     ensures { result ≡ list_span section.now }
 {
-    let answer = read(section);
-    let Answer::Read(_) = answer else {
-        return Span::after(0, 0);
+    let Ok(template) = accept(section) else {
+        return Span::NOWHERE;
     };
-    let template = template_numbered(octets::u16_at(section, 13));
     let end = base_end(template);
     Span::after(end, total_of(section, template) - end)
 }
@@ -23,6 +22,5 @@ pub fn list_span(section: &[u8]) -> Span
 pub fn list(section: &[u8]) -> &[u8]
     ensures { result.now ≡ list₃ section.now }
 {
-    let span = list_span(section);
-    octets::part_after(section, span.before, span.length)
+    list_span(section).of(section)
 }

@@ -40,9 +40,17 @@ pub struct Identification {
 }
 
 // Reads a lent section 1, or refuses it with 1 to 8 or 21.
-#[tactic(auto, using(crate::proofs::Reading::read_in_steps))]
 pub fn read(section: &[u8]) -> Result<Identification, Refusal>
     ensures { told values_in result ≡ outcome₁ section.now }
+{
+    let template = accept(section)?;
+    Ok(record_of(section, template))
+}
+
+// The template that a section follows, or why it is refused.
+#[tactic(auto, using(crate::proofs::Reading::read_in_steps))]
+fn accept(section: &[u8]) -> Result<Template, Refusal>
+    ensures { told (λ template. values₁ template section.now) result ≡ outcome₁ section.now }
 {
     layout::check_opening(section, 1, 21)?;
     let template = template_of(section)?;
@@ -52,7 +60,7 @@ pub fn read(section: &[u8]) -> Result<Identification, Refusal>
     }
     check_fields(section, template)?;
     layout::check_total(section, 1, total)?;
-    Ok(record_of(section, template))
+    Ok(template)
 }
 
 // 5: 22 octets have half of the template's number, which is octets 22-23; 21 octets have no template.

@@ -1,4 +1,4 @@
-use Prim.Native.Nat.{◌+◌, ◌-◌, ◌*◌, ◌≤◌}
+use Prim.Native.Nat.{◌*◌, ◌≤◌}
 use mathlib.Core.Path.{◌≡◌}
 use mathlib.Core.Bool.{true}
 use Rattle.grid.specs.Blocks.{has_list}
@@ -6,11 +6,5 @@ use Rattle.grid.specs.Points.{sum_of}
 use Rattle.grid.proofs.points.list_sum.Given as goal
 
 abbrev pub invariant-loop-i : goal.invariant-loop-i
-invariant-loop-i l = (l.i ≤ l.count)
-    × (l.at ≡ l.end + 1 + l.width * l.i)
-    × (l.at ≤ l.end + 1 + 255 * l.i)
-    × (l.sum ≤ 4294967295 * l.i)
+invariant-loop-i l = (l.sum ≤ 4294967295 * l.i)
     × (has_list l.width ≡ true → l.sum ≡ sum_of l.end l.width l.section l.i)
-
-abbrev pub decreases-loop-i : goal.decreases-loop-i
-decreases-loop-i l = l.count - l.i
