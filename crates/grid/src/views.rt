@@ -3,7 +3,7 @@ ghost use Rattle.std.specs.Prelude.{◌≡◌};
 ghost use Rattle.grid.specs.Views.{list_span, list₃};
 
 use crate::accept;
-use crate::templates::{base_end, total_of};
+use crate::templates::{base_end, list_octets};
 use layout::Span;
 
 // Where the list stands, which is nowhere where the section is refused or has no list.
@@ -14,8 +14,7 @@ pub fn list_span(section: &[u8]) -> Span
     let Ok(template) = accept(section) else {
         return Span::NOWHERE;
     };
-    let end = base_end(template);
-    Span::after(end, total_of(section, template) - end)
+    Span::after(base_end(template), list_octets(section))
 }
 
 // The list's very octets.
