@@ -8,7 +8,7 @@ use Rattle.layout.specs.Outcomes.{and_check, all_allowed}
 use Rattle.layout.proofs.Blocks.{values-meet}
 use Rattle.layout.proofs.Outcomes.{allowed_meet}
 use Rattle.layout.proofs.Allowed.{allowed-apart, allowed-meet}
-use Rattle.layout.proofs.Shown.{values-shown, checked-shown}
+use Rattle.layout.proofs.Shown.{values-shown, allowed_shown}
 use Rattle.grid.specs.Blocks.{grid_head, earth_size, earth, counts, corners, common, poles}
 use Rattle.grid.specs.Templates.{fields₃}
 use Rattle.grid.specs.declared.templates.Template.{Template}
@@ -22,13 +22,13 @@ module _ (template : Template) (n : ℕ) (s : List ℕ) where
       (values-meet 14 common (poles template ++ (shown n ∷ [])) s
       ∙ ap (λ (l : List Value). values_of (after 14 common) s ++ l) (values-shown 72 (poles template) n s))
 
-  pub checked-by-block : all_allowed 3 (after 0 (fields₃ template n)) s ≡ and_check (all_allowed 3 (after 0 grid_head) s) (and_check (all_allowed 3 (after 14 common) s) (all_allowed 3 (after 72 (poles template)) s))
+  pub checks-by-block : all_allowed 3 (after 0 (fields₃ template n)) s ≡ and_check (all_allowed 3 (after 0 grid_head) s) (and_check (all_allowed 3 (after 14 common) s) (all_allowed 3 (after 72 (poles template)) s))
   unfolding fields₃ width_of grid_head earth_size earth counts corners common
-  checked-by-block =
+  checks-by-block =
       allowed_meet 3 0 grid_head (common ++ (poles template ++ (shown n ∷ []))) s
       ∙ ap (and_check (all_allowed 3 (after 0 grid_head) s))
       (allowed_meet 3 14 common (poles template ++ (shown n ∷ [])) s
-      ∙ ap (and_check (all_allowed 3 (after 14 common) s)) (checked-shown 3 72 (poles template) n s))
+      ∙ ap (and_check (all_allowed 3 (after 14 common) s)) (allowed_shown 3 72 (poles template) n s))
 
   pub allowed-by-block : AllAllowed (after 0 (fields₃ template n)) s → AllAllowed (after 0 grid_head) s × AllAllowed (after 30 counts) s × AllAllowed (after 46 corners) s × AllAllowed (after 72 (poles template)) s
   unfolding fields₃ width_of grid_head earth_size earth counts corners common

@@ -12,3 +12,4 @@ pub mod MeansByName
 pub mod WithoutTwelve
 pub mod OffsetRows
 pub mod Reading
+pub mod Listed

@@ -1,15 +1,15 @@
 -- What `list` shows of an accepted section: those very octets that follow the base, whose numbers sum to the points. A refused
 -- section, and one without a list, shows none.
 -- Assumes nothing.
-use Prim.Native.Nat.{ℕ, zero, suc, ◌+◌, ◌*◌}
+use Prim.Native.Nat.{ℕ, ◌+◌}
 use native.Mathlib.Omega.{arith}
-use mathlib.Core.Path.{◌≡◌, refl, ap, sym, ◌∙◌}
+use mathlib.Core.Path.{◌≡◌, ap, sym, ◌∙◌}
 use mathlib.Core.List.{List, []}
 use mathlib.Core.Bool.{true}
 use lib.ListN.{length, take, drop, length-drop, drop_of_length-le}
 use lib.Seq.{take_all}
 use Rattle.octets.specs.Octets.{part, be_at}
-use Rattle.octets.proofs.Laws.{part-take, be_at-drop}
+use Rattle.octets.proofs.Laws.{part-take}
 use Rattle.layout.specs.Outcomes.{refused, if_read}
 use Rattle.layout.specs.Spans.{nowhere, span_after, Within}
 use Rattle.layout.specs.declared.Span.{Span}
@@ -22,20 +22,12 @@ use Rattle.grid.specs.Section3.{outcome₃}
 use Rattle.grid.specs.Views.{list_span, list₃}
 use Rattle.grid.specs.Accepted.{Follows₃, NoList}
 use Rattle.grid.specs.declared.templates.Template.{Template}
+use Rattle.grid.proofs.Listed.{sum-dropped}
 use Rattle.grid.proofs.AcceptedExactlyWhen.{names-it, all-fits, points-listed, accepted-follows, follows-accepted}
 
 pub refused-shows-none : (s : List ℕ) (number section place : ℕ) → outcome₃ s ≡ refused number section place → list₃ s ≡ []
 unfolding list_span if_read
 refused-shows-none s number section place e = rw e
-
--- a list is a section of its own to those who count its octets
-sum-dropped : (end width count : ℕ) (s : List ℕ) → sum_of 0 width (drop end s) count ≡ sum_of end width s count
-unfolding sum_of
-sum-dropped end width zero s = refl
-sum-dropped end width (suc n) s =
-    let at : 0 + 1 + width * n + end ≡ end + 1 + width * n = omega arith in
-    let here = be_at-drop s end (0 + 1 + width * n) width (omega arith) ∙ ap (λ (k : ℕ). be_at s k width) at in
-    λ i. sum-dropped end width n s i + here i
 
 module _ (template : Template) (s : List ℕ) (f : Follows₃ template s) where
   whole : length s ≡ base_end template + list_octets s

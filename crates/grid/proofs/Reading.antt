@@ -1,27 +1,26 @@
 -- A section 3 is read in the steps in which a program reads it: the opening, the template, 7, the fields, 10, the total, the points.
 -- Assumes nothing.
-use Prim.Native.Nat.{ℕ, zero, suc, ◌≤◌}
+use Prim.Native.Nat.{ℕ, zero, suc}
 use native.Mathlib.Omega.{arith}
 use mathlib.Core.Path.{◌≡◌, refl, ap, ◌∙◌}
 use mathlib.Core.Bool.{Bool, true, false, not, cond}
 use mathlib.Core.List.{List, [], ◌∷◌, ◌++◌}
 use lib.Dec.{eqb, ltb}
 use lib.ListN.{length, drop}
-use borrow.Author.Tests.{lt-ltb, le-ltb}
-use Rattle.std.specs.Prelude.{Result, Ok, Err}
+use borrow.Author.Tests.{lt-ltb}
+use Rattle.std.specs.Prelude.{Ok, Err}
 use Rattle.octets.specs.Octets.{be_at}
 use Rattle.layout.specs.Fields.{plain, between, placed, after, bad_place, values_of}
 use Rattle.layout.specs.Outcomes.{Outcome, refused, read, refusal, reason, first_of, first_refusal, opening_reasons, total_reasons, template_reasons, Check, and_check, if_allowed, all_allowed}
-use Rattle.layout.specs.declared.Refusal.{Refusal}
-use Rattle.layout.proofs.Outcomes.{check_then, then_by, first-check, allowed_append, template_checks}
+use Rattle.layout.proofs.Outcomes.{check_then, then_by, first-check, template_checks}
 use Rattle.layout.proofs.Blocks.{values-drop}
-use Rattle.grid.specs.Blocks.{width_allowed, grid_head, earth_size, earth, counts, corners, common, poles}
-use Rattle.grid.specs.Templates.{template_numbered, template_named, listed_template, fields₃, base_end, list_octets, total, values₃}
+use Rattle.grid.specs.Blocks.{width_allowed, grid_head, common, poles}
+use Rattle.grid.specs.Templates.{template_numbered, listed_template, fields₃, base_end, list_octets, total, values₃}
 use Rattle.grid.specs.Agreement.{agreed, disagreement}
 use Rattle.grid.specs.Points.{points_reasons}
 use Rattle.grid.specs.Section3.{as_template, outcome₃}
 use Rattle.grid.specs.declared.templates.Template.{Template}
-use Rattle.grid.proofs.FieldsByBlock.{values-by-block, checked-by-block}
+use Rattle.grid.proofs.FieldsByBlock.{values-by-block, checks-by-block}
 
 -- ---- the template
 
@@ -54,7 +53,7 @@ by-number (suc (suc (suc (suc n)))) go = rw (lt-ltb 3 (suc (suc (suc (suc n)))) 
 pub fields_checked : (template : Template) (n : ℕ) (s : List ℕ) → all_allowed 3 (after 0 (fields₃ template n)) s ≡ and_check (if_allowed 3 6 (between 0 0 (be_at s 6 1))) (and_check (if_allowed 3 11 (width_allowed (be_at s 11 1))) (and_check (if_allowed 3 12 (between 0 2 (be_at s 12 1))) (and_check (all_allowed 3 (after 14 common) s) (all_allowed 3 (after 72 (poles template)) s))))
 unfolding all_allowed and_check placed grid_head
 fields_checked template n s =
-    checked-by-block template n s
+    checks-by-block template n s
     ∙ in-turn (if_allowed 3 6 (between 0 0 (be_at s 6 1))) (if_allowed 3 11 (width_allowed (be_at s 11 1))) (if_allowed 3 12 (between 0 2 (be_at s 12 1))) _
   where
     in-turn : (a b c d : Check) → and_check (and_check a (and_check b (and_check c (Ok tt)))) d ≡ and_check a (and_check b (and_check c d))

@@ -1,8 +1,8 @@
 // The templates of section 3: the octet at which each one's base ends, the list behind it, and the total.
-ghost use Rattle.std.specs.Prelude.{◌≡◌};
+ghost use Rattle.std.specs.Prelude.{◌≡◌, ◌^◌, ◌<◌};
 ghost use Rattle.octets.specs.Octets.{be_at};
 ghost use Rattle.grid.specs.Blocks.{has_list};
-ghost use Rattle.grid.specs.Templates.{listed_template, base_end, is_missing, list_count, total};
+ghost use Rattle.grid.specs.Templates.{listed_template, base_end, is_missing, list_count, list_octets, total};
 
 use crate::blocks::Grid;
 use layout::Refusal;
@@ -63,7 +63,7 @@ pub(crate) fn missing(section: &[u8], at: usize) -> bool
 
 // Nj numbers if Ni is missing, else Ni numbers.
 #[tactic(auto, unfolding(crate::specs::Templates::list_count))]
-pub(crate) fn list_count(section: &[u8]) -> u32
+fn list_count(section: &[u8]) -> u32
     ensures { result ≡ list_count section.now }
 {
     if octets::u8_at(section, 11) == 0 {
@@ -75,11 +75,19 @@ pub(crate) fn list_count(section: &[u8]) -> u32
     octets::u32_at(section, 31)
 }
 
+// The octets of a section's list, which its own numbers say.
+pub(crate) fn list_octets(section: &[u8]) -> usize
+    ensures octets { result ≡ list_octets section.now }
+    ensures small { result < 2 ^ 40 }
+{
+    let width = octets::u8_at(section, 11);
+    (width as usize) * (list_count(section) as usize)
+}
+
 // The octets of a section with its base and its list.
+#[tactic(auto, using(crate::proofs::Widths::base_small))]
 pub(crate) fn total_of(section: &[u8], template: Template) -> usize
     ensures { result ≡ total template section.now }
 {
-    let width = octets::u8_at(section, 11);
-    let count = list_count(section);
-    base_end(template) + (width as usize) * (count as usize)
+    base_end(template) + list_octets(section)
 }

@@ -3,7 +3,7 @@ ghost use Rattle.std.specs.Prelude.{◌≡◌};
 ghost use Rattle.grid.specs.Views.{list_span, list₃};
 
 use crate::accept;
-use crate::templates::{base_end, total_of};
+use crate::templates::{base_end, list_octets};
 use layout::Span;
 
 // Where the list stands, which is nowhere where the section is refused or has no list.
@@ -12,16 +12,14 @@ pub fn list_span(section: &[u8]) -> Span
     ensures { result ≡ list_span section.now }
 {
     let Ok(template) = accept(section) else {
-        return Span::after(0, 0);
+        return Span::NOWHERE;
     };
-    let end = base_end(template);
-    Span::after(end, total_of(section, template) - end)
+    Span::after(base_end(template), list_octets(section))
 }
 
 // The list's very octets.
 pub fn list(section: &[u8]) -> &[u8]
     ensures { result.now ≡ list₃ section.now }
 {
-    let span = list_span(section);
-    octets::part_after(section, span.before, span.length)
+    list_span(section).of(section)
 }

@@ -33,16 +33,16 @@ check-total = record { takes = λ lent given. tt; ends = code.check_total.Met.me
 
 -- of every width, a type that lends nothing
 
-pub or-missing : (T : RattleType) (laws : Laws T) (w : Ghosts T.Denot) (dict : Dict) → ((a : ℕ) → Mem a T.lives → ⊥) → Entry (code.or_missing.Reads.Asked T laws w dict) (code.or_missing.Reads.Learnt T laws w dict) code.or_missing.Statement.statement (λ given r later. in32 r ≡ means (or_missing unsigned) w.octets (be_at given.0.now given.1.0 w.octets))
+pub or-missing : (T : RattleType) (laws : Laws T) (w : Ghosts T.Denot) (dict : Dict) → ((a : ℕ) → Mem a T.lives → ⊥) → Entry (code.or_missing.Reads.Asked T laws w dict) (code.or_missing.Reads.Learnt T laws w dict) code.or_missing.Statement.statement (λ given r later. in32 r ≡ means (or_missing unsigned) w.OCTETS (be_at given.0.now given.1.0 w.OCTETS))
 or-missing T laws w dict free = record { takes = λ lent given a there. absurd (free a there); ends = code.or_missing.Met.met; tells = λ lent given r later e. e }
 
-pub signed-or-missing : (T : RattleType) (laws : Laws T) (w : Ghosts T.Denot) (dict : Dict) → ((a : ℕ) → Mem a T.lives → ⊥) → Entry (code.signed_or_missing.Reads.Asked T laws w dict) (code.signed_or_missing.Reads.Learnt T laws w dict) code.signed_or_missing.Statement.statement (λ given r later. in_signed r ≡ means (or_missing signed) w.octets (be_at given.0.now given.1.0 w.octets))
+pub signed-or-missing : (T : RattleType) (laws : Laws T) (w : Ghosts T.Denot) (dict : Dict) → ((a : ℕ) → Mem a T.lives → ⊥) → Entry (code.signed_or_missing.Reads.Asked T laws w dict) (code.signed_or_missing.Reads.Learnt T laws w dict) code.signed_or_missing.Statement.statement (λ given r later. in_signed r ≡ means (or_missing signed) w.OCTETS (be_at given.0.now given.1.0 w.OCTETS))
 signed-or-missing T laws w dict free = record { takes = λ lent given a there. absurd (free a there); ends = code.signed_or_missing.Met.met; tells = λ lent given r later e. e }
 
-pub check-present : (T : RattleType) (laws : Laws T) (w : Ghosts T.Denot) (dict : Dict) → ((a : ℕ) → Mem a T.lives → ⊥) → Entry (code.check_present.Reads.Asked T laws w dict) (code.check_present.Reads.Learnt T laws w dict) code.check_present.Statement.statement (λ given r later. r ≡ if_allowed given.1.0 given.1.1.0 (not_ones w.octets (be_at given.0.now given.1.1.0 w.octets)))
+pub check-present : (T : RattleType) (laws : Laws T) (w : Ghosts T.Denot) (dict : Dict) → ((a : ℕ) → Mem a T.lives → ⊥) → Entry (code.check_present.Reads.Asked T laws w dict) (code.check_present.Reads.Learnt T laws w dict) code.check_present.Statement.statement (λ given r later. r ≡ if_allowed given.1.0 given.1.1.0 (not_ones w.OCTETS (be_at given.0.now given.1.1.0 w.OCTETS)))
 check-present T laws w dict free = record { takes = λ lent given a there. absurd (free a there); ends = code.check_present.Met.met; tells = λ lent given r later e. e }
 
-pub check-nonzero : (T : RattleType) (laws : Laws T) (w : Ghosts T.Denot) (dict : Dict) → ((a : ℕ) → Mem a T.lives → ⊥) → Entry (code.check_nonzero.Reads.Asked T laws w dict) (code.check_nonzero.Reads.Learnt T laws w dict) code.check_nonzero.Statement.statement (λ given r later. r ≡ if_allowed given.1.0 given.1.1.0 (not_zero (be_at given.0.now given.1.1.0 w.octets)))
+pub check-nonzero : (T : RattleType) (laws : Laws T) (w : Ghosts T.Denot) (dict : Dict) → ((a : ℕ) → Mem a T.lives → ⊥) → Entry (code.check_nonzero.Reads.Asked T laws w dict) (code.check_nonzero.Reads.Learnt T laws w dict) code.check_nonzero.Statement.statement (λ given r later. r ≡ if_allowed given.1.0 given.1.1.0 (not_zero (be_at given.0.now given.1.1.0 w.OCTETS)))
 check-nonzero T laws w dict free = record { takes = λ lent given a there. absurd (free a there); ends = code.check_nonzero.Met.met; tells = λ lent given r later e. e }
 
 -- and the others

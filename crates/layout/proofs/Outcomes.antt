@@ -170,6 +170,17 @@ pub record Headed (section : ℕ) (s : List ℕ) : Type 0 where
   pub says-length : be_at s 1 4 ≡ length s
   pub says-number : be_at s 5 1 ≡ section
 
+-- what a program knows of a section behind two of its checks
+pub passed_small : (section least : ℕ) (s : List ℕ) → first_refusal section (opening_reasons section least s) ≡ Ok tt → length s ≤ 65536
+unfolding NoneHold opening_reasons
+passed_small section least s e = ltb-false _ _ (passed-none section (opening_reasons section least s) e).1.0
+
+pub passed_whole : (section total : ℕ) (s : List ℕ) → first_refusal section (total_reasons total s) ≡ Ok tt → length s ≡ total
+unfolding NoneHold total_reasons
+passed_whole section total s e =
+    let h = passed-none section (total_reasons total s) e in
+    omega (arith, ltb-false (length s) total h.0, ltb-false total (length s) h.1.0)
+
 -- 7, 8, the section's own number, and the total
 pub record Fits (smallest bad own total : ℕ) (s : List ℕ) : Type 0 where
   pub enough : smallest ≤ length s

@@ -3,12 +3,11 @@
 use mathlib.Core.Path.{◌≡◌, refl, ◌∙◌}
 use mathlib.Core.List.{List, [], ◌∷◌, ◌++◌, append_assoc, append-nil}
 use Prim.Native.Nat.{ℕ, ◌+◌}
-use Rattle.layout.specs.Fields.{Field, FieldAt, shown, width_of, placed, after, values_of, lowest_bad}
+use Rattle.layout.specs.Fields.{Field, FieldAt, shown, width_of, placed, after, values_of}
 use Rattle.layout.specs.Shown.{shown_of}
-use Rattle.layout.specs.Outcomes.{Check, and_check, all_allowed}
-use Rattle.layout.proofs.Blocks.{after-append, values-meet, bad-meet}
-use Rattle.layout.proofs.Outcomes.{allowed_meet}
-use Rattle.std.specs.Prelude.{Ok, Err}
+use Rattle.layout.specs.Outcomes.{and_check, all_allowed}
+use Rattle.layout.proofs.Blocks.{after-append, values-meet}
+use Rattle.layout.proofs.Outcomes.{allowed_meet, and_passed}
 
 shown-append : (a b : List FieldAt) (s : List ℕ) → shown_of (a ++ b) s ≡ shown_of a s ++ shown_of b s
 unfolding shown_of
@@ -19,19 +18,11 @@ shown-append (p ∷ ps) b s = rw (append_assoc, shown-append ps b s)
 pub shown-meet : (end : ℕ) (a b : List Field) (s : List ℕ) → shown_of (after end (a ++ b)) s ≡ shown_of (after end a) s ++ shown_of (after (end + width_of a) b) s
 shown-meet end a b s = rw (after-append, shown-append)
 
--- octets that are shown behind other fields change neither the values nor the lowest place out of range nor what the checks say
+-- octets that are shown behind other fields change neither the values nor what the checks say
 pub values-shown : (end : ℕ) (fs : List Field) (n : ℕ) (s : List ℕ) → values_of (after end (fs ++ (shown n ∷ []))) s ≡ values_of (after end fs) s
 unfolding values_of placed
 values-shown end fs n s = values-meet end fs (shown n ∷ []) s ∙ append-nil _
 
-pub bad-shown : (end : ℕ) (fs : List Field) (n : ℕ) (s : List ℕ) (later : ℕ) → lowest_bad (after end (fs ++ (shown n ∷ []))) s later ≡ lowest_bad (after end fs) s later
-unfolding lowest_bad placed
-bad-shown end fs n s later = bad-meet end fs (shown n ∷ []) s later
-
-pub checked-shown : (section end : ℕ) (fs : List Field) (n : ℕ) (s : List ℕ) → all_allowed section (after end (fs ++ (shown n ∷ []))) s ≡ all_allowed section (after end fs) s
+pub allowed_shown : (section end : ℕ) (fs : List Field) (n : ℕ) (s : List ℕ) → all_allowed section (after end (fs ++ (shown n ∷ []))) s ≡ all_allowed section (after end fs) s
 unfolding all_allowed and_check placed
-checked-shown section end fs n s = allowed_meet section end fs (shown n ∷ []) s ∙ none-more (all_allowed section (after end fs) s)
-  where
-    none-more : (c : Check) → and_check c (Ok tt) ≡ c
-    none-more (Err x) = refl
-    none-more (Ok u) = refl
+allowed_shown section end fs n s = allowed_meet section end fs (shown n ∷ []) s ∙ and_passed _

@@ -3,7 +3,8 @@
 // function takes every input.
 #![tactic(auto)]
 
-ghost use Rattle.std.specs.Prelude.{◌≡◌, ℕ, refl};
+ghost use Rattle.std.specs.Prelude.{◌≡◌, ◌<◌, ℕ, refl};
+ghost use Rattle.std.proofs.Common.{lit<};
 ghost use Rattle.octets.specs.Octets.{be_at, sign_of, all_ones};
 ghost use Rattle.layout.specs.Fields.{between, not_ones, not_zero, means, unsigned, signed, or_missing, after, values_of};
 ghost use Rattle.layout.specs.Outcomes.{refusal, head_reasons, opening_reasons, total_reasons, first_refusal, if_allowed, all_allowed};
@@ -97,29 +98,37 @@ pub fn check_total(s: &[u8], section: u8, total: usize) -> Result<(), Refusal>
 
 // A number of so many octets; all ones may say that it is missing.
 pub trait Width {
-    ghost octets: { ℕ };
+    ghost OCTETS: { ℕ };
 
     ghost ONES: { ℕ };
+
+    const OCTETS: usize;
 
     const ONES: u32;
 
     // The one from octet `at` on.
     fn at(s: &[u8], at: usize) -> u32
-        ensures { result ≡ be_at s.now at octets };
+        ensures { result ≡ be_at s.now at OCTETS };
 
     // The same by sign and magnitude.
     fn signed_at(s: &[u8], at: usize) -> i32
-        ensures { result ≡ sign_of octets (be_at s.now at octets) };
+        ensures { result ≡ sign_of OCTETS (be_at s.now at OCTETS) };
 
-    ghost ones: { ONES ≡ all_ones octets };
+    ghost some: { 0 < OCTETS };
+
+    ghost ones: { ONES ≡ all_ones OCTETS };
 }
 
 impl Width for u8 {
-    ghost octets = { 1 };
+    ghost OCTETS = { 1 };
 
     ghost ONES = { 0xff };
 
+    const OCTETS: usize = 1;
+
     const ONES: u32 = 0xff;
+
+    ghost some = { lit< tt };
 
     ghost ones = { refl };
 
@@ -134,11 +143,15 @@ impl Width for u8 {
 }
 
 impl Width for u16 {
-    ghost octets = { 2 };
+    ghost OCTETS = { 2 };
 
     ghost ONES = { 0xffff };
 
+    const OCTETS: usize = 2;
+
     const ONES: u32 = 0xffff;
+
+    ghost some = { lit< tt };
 
     ghost ones = { refl };
 
@@ -153,11 +166,15 @@ impl Width for u16 {
 }
 
 impl Width for u32 {
-    ghost octets = { 4 };
+    ghost OCTETS = { 4 };
 
     ghost ONES = { 0xffff_ffff };
 
+    const OCTETS: usize = 4;
+
     const ONES: u32 = 0xffff_ffff;
+
+    ghost some = { lit< tt };
 
     ghost ones = { refl };
 
@@ -173,7 +190,7 @@ impl Width for u32 {
 
 // A number that may be missing.
 pub fn or_missing<T: Width>(s: &[u8], at: usize) -> Option<u32>
-    ensures { in32 result ≡ means (or_missing unsigned) T.octets (be_at s.now at T.octets) }
+    ensures { in32 result ≡ means (or_missing unsigned) T.OCTETS (be_at s.now at T.OCTETS) }
 {
     let x = T::at(s, at);
     if x == T::ONES { None } else { Some(x) }
@@ -181,7 +198,7 @@ pub fn or_missing<T: Width>(s: &[u8], at: usize) -> Option<u32>
 
 // The same by sign and magnitude.
 pub fn signed_or_missing<T: Width>(s: &[u8], at: usize) -> Option<i32>
-    ensures { in_signed result ≡ means (or_missing signed) T.octets (be_at s.now at T.octets) }
+    ensures { in_signed result ≡ means (or_missing signed) T.OCTETS (be_at s.now at T.OCTETS) }
 {
     if T::at(s, at) == T::ONES {
         None
@@ -202,14 +219,14 @@ pub fn check_within(s: &[u8], section: u8, at: usize, low: u8, high: u8) -> Resu
 
 // A number that is not missing.
 pub fn check_present<T: Width>(s: &[u8], section: u8, at: usize) -> Result<(), Refusal>
-    ensures { result ≡ if_allowed section at (not_ones T.octets (be_at s.now at T.octets)) }
+    ensures { result ≡ if_allowed section at (not_ones T.OCTETS (be_at s.now at T.OCTETS)) }
 {
     check(section, at, T::at(s, at) != T::ONES)
 }
 
 // A number that is not 0.
 pub fn check_nonzero<T: Width>(s: &[u8], section: u8, at: usize) -> Result<(), Refusal>
-    ensures { result ≡ if_allowed section at (not_zero (be_at s.now at T.octets)) }
+    ensures { result ≡ if_allowed section at (not_zero (be_at s.now at T.OCTETS)) }
 {
     check(section, at, T::at(s, at) != 0)
 }

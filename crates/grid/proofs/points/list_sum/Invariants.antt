@@ -1,16 +1,8 @@
-use Prim.Native.Nat.{◌+◌, ◌-◌, ◌*◌, ◌≤◌}
 use mathlib.Core.Path.{◌≡◌}
-use mathlib.Core.Bool.{true}
-use Rattle.grid.specs.Blocks.{has_list}
-use Rattle.grid.specs.Points.{sum_of}
+use lib.ListN.{length}
+use Rattle.grid.proofs.Listed.{Summed}
 use Rattle.grid.proofs.points.list_sum.Given as goal
 
-abbrev pub invariant-loop-i : goal.invariant-loop-i
-invariant-loop-i l = (l.i ≤ l.count)
-    × (l.at ≡ l.end + 1 + l.width * l.i)
-    × (l.at ≤ l.end + 1 + 255 * l.i)
-    × (l.sum ≤ 4294967295 * l.i)
-    × (has_list l.width ≡ true → l.sum ≡ sum_of l.end l.width l.section l.i)
-
-abbrev pub decreases-loop-i : goal.decreases-loop-i
-decreases-loop-i l = l.count - l.i
+abbrev pub invariant-loop-number : goal.invariant-loop-number
+invariant-loop-number g l = (l.number-iterator.size ≡ g.T.Width.OCTETS)
+    × Summed g.T.Width.OCTETS l.list l.number-iterator.rest.now (length l.yielded) l.sum
