@@ -4,12 +4,16 @@ use mathlib.Core.Path.{◌≡◌}
 use Rattle.product.specs.Views.{range_span, member_span, coordinate_span, range_of, members_of, coordinates_of}
 use Rattle.layout.specs.Outcomes.{told}
 use Rattle.product.specs.Blocks.{values_in}
+use Rattle.product.specs.Templates.{template_of, listed_or_6}
 use Rattle.product.specs.Section4.{outcome₄}
 use Rattle.entry.specs.Entry.{Entry}
 use Rattle.product.proofs as code
 
 pub read : Entry code.read.Reads.Asked code.read.Reads.Learnt code.read.Statement.statement (λ given r later. told values_in r ≡ outcome₄ given.0.now)
 read = record { takes = λ lent given. tt; ends = code.read.Met.met; tells = λ lent given r later e. e }
+
+pub template-by-number : Entry code.templates.TemplateTryFromU16.try_from.Reads.Asked code.templates.TemplateTryFromU16.try_from.Reads.Learnt code.templates.TemplateTryFromU16.try_from.Statement.statement (λ given r later. r ≡ listed_or_6 (template_of given.0))
+template-by-number = record { takes = λ lent given. tt; ends = code.templates.TemplateTryFromU16.try_from.Met.met; tells = λ lent given r later e. e }
 
 pub range-span : Entry code.views.range_span.Reads.Asked code.views.range_span.Reads.Learnt code.views.range_span.Statement.statement (λ given r later. r ≡ range_span given.0.now given.1.0)
 range-span = record { takes = λ lent given. tt; ends = code.views.range_span.Met.met; tells = λ lent given r later e. e }

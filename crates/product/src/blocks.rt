@@ -147,10 +147,7 @@ impl Template {
     fn read_interval(self, section: &[u8]) -> Option<IntervalEnd>
         ensures { interval_in result ≡ cond self.timed (values_of (after (part_end self.kind) interval) section.now) (none ∷ []) }
     {
-        if !self.timed {
-            return None;
-        }
-        Some(read_end(section, self.part_end()))
+        self.timed.then(|| read_end(section, self.part_end()))
     }
 }
 

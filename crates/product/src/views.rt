@@ -54,10 +54,7 @@ impl Template {
 pub fn range_span(section: &[u8], k: usize) -> Span
     ensures { result ≡ range_span section.now k }
 {
-    let Some(template) = template_read(section) else {
-        return Span::NOWHERE;
-    };
-    template.range_span(section, k)
+    template_read(section).map_or(Span::NOWHERE, |t| t.range_span(section, k))
 }
 
 // The numbers of a cluster's members, an octet each.
@@ -65,10 +62,7 @@ pub fn range_span(section: &[u8], k: usize) -> Span
 pub fn member_span(section: &[u8]) -> Span
     ensures { result ≡ member_span section.now }
 {
-    let Some(template) = template_read(section) else {
-        return Span::NOWHERE;
-    };
-    template.member_span(section)
+    template_read(section).map_or(Span::NOWHERE, |t| t.member_span(section))
 }
 
 // The coordinate values, four octets each.
@@ -76,10 +70,7 @@ pub fn member_span(section: &[u8]) -> Span
 pub fn coordinate_span(section: &[u8]) -> Span
     ensures { result ≡ coordinate_span section.now }
 {
-    let Some(template) = template_read(section) else {
-        return Span::NOWHERE;
-    };
-    template.coordinate_span(section)
+    template_read(section).map_or(Span::NOWHERE, |t| t.coordinate_span(section))
 }
 
 pub fn time_range(section: &[u8], k: usize) -> &[u8]
