@@ -40,7 +40,7 @@ pub use Rattle.packing.proofs.RefusalNumbers.{packing-refuses, data-refuses, unp
 pub use Rattle.field.proofs.RefusalNumbers.{field-refuses}
 pub use Rattle.message.proofs.RefusalNumbers.{message-refuses}
 pub use Rattle.filing.proofs.RefusalNumbers.{filing-refuses}
-pub use Rattle.queue.proofs.RefusalNumbers.{record-refuses, queue-refuses, queue-number}
+pub use Rattle.queue.proofs.RefusalNumbers.{record-refuses, queue-refuses, check-refuses, queue-number}
 pub use Rattle.values.proofs.RecordRead.{read-into-refuses}
 -- Of the entries for C: each answers 0, or one number for a refusal that a table lists, and no two refusals have the same;
 pub use Rattle.demands.proofs.NumbersForC.{unpack-answers, read-answers, part-answers, list-answers, message-answers, empty-answers, join-answers, slot-answers, field-answers, queue-answers, one-refusal}

@@ -50,7 +50,7 @@ use Rattle.filing.proofs.SaidOfTheSlots.{slot-there, said}
 use Rattle.filing.specs.declared.Filed.{Filed}
 use Rattle.cutting.specs.Cuts.{cut_of}
 use Rattle.cutting.specs.Sections.{stretch, Sized}
-use Rattle.queue.specs.Queues.{Sent, body_filing, record_filing, record_filed, record_step, records_filed, from_start, queue_refusal, refused_queue, accepted_queue, queue_filed}
+use Rattle.queue.specs.Queues.{Sent, body_filing, record_filing, record_filed, record_step, records_filed, from_start, queue_refusal, checked, refused_queue, accepted_queue, queue_filed}
 use Rattle.queue.specs.Spelled.{spelled_all, AllSpellable, FollowsQueue, back_to_back, FiveSections}
 use Rattle.queue.specs.Counting.{Reports}
 use Rattle.queue.specs.Bodies.{body_of}
@@ -60,7 +60,7 @@ use Rattle.layout.specs.declared.Refusal.{Refusal}
 use Rattle.queue.specs.declared.QueueFiled.{QueueFiled}
 use Rattle.queue.specs.History.{FiledField, History, start, put, file, queue, join, shelf_of, accepted_at, accepted_in, accepted_of}
 use Rattle.queue.proofs.Histories.{tidy, greatest-card as greatest, any_order as in-any-order}
-use Rattle.queue.proofs.Spelled.{cut-spelled, spelled-again, all-spellable, accepted-exactly-when, filed-spelled}
+use Rattle.queue.proofs.Spelled.{cut-spelled, spelled-again, all-spellable, accepted-exactly-when, checked-exactly-when, filed-spelled}
 use Rattle.queue.proofs.FiveSections.{five-filed, five-or-20, record-accepted as accepted-record}
 use Rattle.queue.proofs.Counting.{queue-counts}
 use Rattle.queue.proofs.QueueIsJoining.{queue-is-joining as is-joining, queue-again as once_more}
@@ -144,6 +144,10 @@ filing-answers s slot x = answered-exactly-when slot x.issue x.s1 x.s3 x.s4 x.s5
 -- into, written again, is the queue
 pub queue-accepted : (q : List ℕ) → AllOctets q → (queue_refusal q ≡ 0) ↔ FollowsQueue q
 queue-accepted = accepted-exactly-when
+
+-- and that is what its check answers
+pub queue-checked : (q : List ℕ) → AllOctets q → (checked q ≡ Ok (tt {0})) ↔ FollowsQueue q
+queue-checked = checked-exactly-when
 
 pub queue-cut : (rs : List Sent) → AllSpellable rs → cut_of record_step (spelled_all rs) ≡ record { items = rs; whole = true }
 queue-cut = cut-spelled

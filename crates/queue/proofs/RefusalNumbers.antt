@@ -20,7 +20,7 @@ use Rattle.filing.specs.Refused.{filing_table}
 use Rattle.filing.specs.declared.Change.{Change}
 use Rattle.filing.proofs.RefusalNumbers.{RefusesFiling, refuses-filing, RefusesAnswer, answer-refuses}
 use Rattle.queue.specs.Bodies.{body_of}
-use Rattle.queue.specs.Queues.{Sent, body_filing, record_filing, record_filed, record_step, records_filed, from_start, queue_refusal, accepted_queue, refused_queue, queue_filed}
+use Rattle.queue.specs.Queues.{Sent, body_filing, record_filing, record_filed, record_step, records_filed, from_start, queue_refusal, checked, accepted_queue, refused_queue, queue_filed}
 use Rattle.queue.specs.Refused.{record_table, queue_table}
 use Rattle.queue.specs.declared.Ends.{Ends}
 use Rattle.queue.specs.declared.Counts.{Counts}
@@ -66,7 +66,24 @@ refuses-queue shelf q = by_tests (ltb 65536 (length q)) (cut_of record_step q).w
 pub queue-refuses : (shelf : Shelf) (q : List ℕ) (x : Refusal) → (queue_filed shelf q).answer ≡ Err x → Listed queue_table x
 queue-refuses shelf q x e = subst (λ (a : Result Counts Refusal). RefusesQueue a) e (refuses-queue shelf q)
 
--- the entry that answers a number alone: 0 is none
+-- the check alone
+abbrev RefusesCheck : Result (Unit {0}) Refusal → Type 0
+RefusesCheck (Ok x) = Unit {0}
+RefusesCheck (Err x) = Listed queue_table x
+
+refuses-check : (q : List ℕ) → RefusesCheck (checked q)
+unfolding checked queue_refusal
+refuses-check q = by_tests (ltb 65536 (length q)) (cut_of record_step q).whole
+  where
+    by_tests : (long whole : Bool) → RefusesCheck (cond (eqb (cond long 2 (cond whole 0 19)) 0) (Ok tt) (Err (refusal (cond long 2 (cond whole 0 19)) 0 0)))
+    by_tests true whole = placeless queue_table 2 0 refl refl
+    by_tests false true = tt
+    by_tests false false = placeless queue_table 19 0 refl refl
+
+pub check-refuses : (q : List ℕ) (x : Refusal) → checked q ≡ Err x → Listed queue_table x
+check-refuses q x e = subst RefusesCheck e (refuses-check q)
+
+-- its number: 0 is none
 pub queue-number : (q : List ℕ) → one_of (0 ∷ 2 ∷ 19 ∷ []) (queue_refusal q) ≡ true
 unfolding queue_refusal
 queue-number q =

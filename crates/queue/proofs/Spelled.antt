@@ -9,20 +9,21 @@ use mathlib.Core.List.{List, ◌++◌, append_assoc}
 use lib.Dec.{ltb, eqb}
 use lib.ListN.{length, drop, take, length-append, length-drop}
 use lib.Seq.{length-take-le, take-length, drop-append_seam, drop-append-add, take-add}
-use borrow.Author.Tests.{le-ltb, ltb-false, ne_eqb, eqb-true, eqb-false}
+use borrow.Author.Tests.{le-ltb, ltb-false, ne_eqb, eq-eqb, eqb-true, eqb-false}
 use Rattle.octets.specs.Octets.{AllOctets}
 use Rattle.octets.proofs.Laws.{drop-octets}
-use Rattle.std.specs.Prelude.{Option, Some, None}
+use Rattle.std.specs.Prelude.{Option, Some, None, Ok, Err}
 use Rattle.cutting.specs.Numbers.{found, leading_number, with_number, groups, spelled}
 use Rattle.cutting.specs.Cuts.{Cut, item, cut_of}
 use Rattle.cutting.specs.declared.Number.{Number}
 use Rattle.cutting.proofs.OneSpelling.{one-spelling, of-groups, has_one}
 use Rattle.cutting.proofs.Taken.{taken}
 use Rattle.cutting.proofs.Strung.{Spells, each_item, cut-strung, strung-cut}
+use Rattle.layout.specs.Outcomes.{refusal}
 use Rattle.shelf.specs.declared.Shelf.{Shelf}
 use Rattle.filing.specs.Filing.{issue_from}
 use Rattle.queue.specs.Records.{bodied, record_of}
-use Rattle.queue.specs.Queues.{Sent, record_in, record_item, record_step, records_filed, from_start, queue_refusal, accepted_queue, queue_filed}
+use Rattle.queue.specs.Queues.{Sent, record_in, record_item, record_step, records_filed, from_start, queue_refusal, checked, accepted_queue, queue_filed}
 use Rattle.queue.specs.Spelled.{stored_of, spelled_record, spelled_all, Spellable, AllSpellable, FollowsQueue}
 use Rattle.queue.specs.declared.Head.{Head}
 use Rattle.queue.proofs.Cuts.{Stands, stands, by-record, records-advance, records-look-no-further}
@@ -181,6 +182,17 @@ accepted-exactly-when q o = (
     by false t true f e =
         record { small = ltb-false _ _ t; records = (cut_of record_step q).items; spellable = all-spellable q; written = sym (spelled-again q o f) }
     by false t false f e = absurd (omega arith)
+
+pub checked-exactly-when : (q : List ℕ) → AllOctets q → (checked q ≡ Ok (tt {0})) ↔ FollowsQueue q
+unfolding checked
+checked-exactly-when q o = (
+  (λ e. (accepted-exactly-when q o).0 (eqb-true (queue_refusal q) 0 (by (eqb (queue_refusal q) 0) e))),
+  (λ f. ap (λ (t : Bool). cond t (Ok (tt {0})) (Err (refusal (queue_refusal q) 0 0))) (eq-eqb _ _ ((accepted-exactly-when q o).1 f))),
+)
+  where
+    by : (t : Bool) → cond t (Ok (tt {0})) (Err (refusal (queue_refusal q) 0 0)) ≡ Ok (tt {0}) → t ≡ true
+    by true e = refl
+    by false e = let z : ◌≡◌ {A = ℕ} 0 1 = cc in absurd (omega arith)
 
 -- and the records that are then filed are these
 pub filed-spelled : (s : Shelf) (rs : List Sent) → AllSpellable rs → length (spelled_all rs) ≤ 65536 → queue_filed s (spelled_all rs) ≡ accepted_queue (records_filed (from_start s) rs)
