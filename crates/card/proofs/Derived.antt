@@ -1,6 +1,6 @@
 -- Std's derived order goes field by field as the order of keys goes number by number.
 -- Assumes nothing.
-use mathlib.Core.Path.{◌≡◌, refl}
+use mathlib.Core.Path.{◌≡◌, refl, sym, ap, ◌∙◌}
 use mathlib.Core.Bool.{Bool, true, false, cond}
 use mathlib.Core.List.{List, [], ◌∷◌, map}
 use Prim.Native.Nat.{ℕ}
@@ -13,7 +13,12 @@ use Rattle.std.specs.Prelude.{Option, Some}
 use Rattle.std.proofs.Common.{Ordering, Less, Equal, Greater}
 use Rattle.std.specs.Ordering.{int_cmp, nat_cmp, partial_ordering_then, is_some_and, is_lt}
 use Rattle.std.specs.Cmp.Lexicographic.{slice_partial_cmp}
+use Rattle.card.specs.declared.Card.{Card}
+use Rattle.card.specs.contracts.CardPartialOrd.TheImpl.{partial_cmp-value}
+use Rattle.card.specs.contracts.CardOrd.TheImpl.{cmp-value}
+use Rattle.card.specs.contracts.CardOrd.TheImpl.Laws.{matches_partial_cmp-law}
 use Rattle.card.specs.Order.{lex}
+use Rattle.card.specs.Key.{key_of, less_card}
 
 -- a signed number and what follows it
 pub then_int : (x y : ℤ) (o : Option Ordering) (xs ys : List ℤ) → is_some_and is_lt o ≡ lex lt_z xs ys
@@ -44,3 +49,12 @@ lex_octets [] [] = refl
 lex_octets [] (y ∷ ys) = refl
 lex_octets (x ∷ xs) [] = refl
 lex_octets (x ∷ xs) (y ∷ ys) = then_nat x y _ (map pos xs) (map pos ys) (lex_octets xs ys)
+
+-- ---- cards
+
+pub derived_less : (a b : Card) → is_some_and is_lt (partial_cmp-value.it a b) ≡ less_card a b
+unfolding less_card key_of
+derived_less a b = then_int _ _ _ _ _ (then_nat _ _ _ _ _ (then_nat _ _ _ _ _ (then_nat _ _ _ _ _ (then_nat _ _ _ _ _ (then_nat _ _ _ _ _ (then_nat _ _ _ _ _ (lex_octets _ _)))))))
+
+pub derived_cmp : (a b : Card) → is_lt (cmp-value.it a b) ≡ less_card a b
+derived_cmp a b = sym (ap (is_some_and is_lt) (matches_partial_cmp-law a b)) ∙ derived_less a b

@@ -28,7 +28,7 @@ pub fn product_at(s: &[u8], at: usize) -> [u8; 27]
 }
 
 // Whether a is less than b, as the order of the fields has it.
-#[tactic(auto, unfolding(crate::specs::Key::less_card, crate::specs::Key::key_of), using(crate::proofs::Derived::then_int, crate::proofs::Derived::then_nat, crate::proofs::Derived::lex_octets))]
+#[tactic(auto, using(crate::proofs::Derived::derived_less))]
 pub fn less(a: Card, b: Card) -> bool
     ensures { result ≡ less_card a b }
 {
