@@ -69,7 +69,7 @@ pub fn file_by_value<'a>(
         return refused(shelf, 17, 1);
     }
     let card = card_of(identification, issue_of(issue), section4);
-    after_put(shelf::put(shelf, slot, card))
+    after_put(shelf.put(slot, card))
 }
 
 // The trailer's one shelf is lent to the filing call and changed there.

@@ -1,13 +1,12 @@
 -- What the two programs print of a queue, octet by octet: the listing of what is held after filing it to an empty shelf, and the
 -- explanation of what became of each record. Decimal, one space, a minus sign before a negative year; each line ends in a line end.
 -- Assumes nothing.
-use Rattle.std.specs.Prelude.{ℕ, ◌+◌, List, [], ◌∷◌, ◌++◌, cond}
+use Rattle.std.specs.Prelude.{ℕ, ◌+◌, List, [], ◌∷◌, ◌++◌, Some, None}
 use Rattle.octets.specs.Octets.{be_at}
 use Rattle.lent.specs.Rows.{in_turn}
 use Rattle.layout.specs.declared.Refusal.{Refusal}
 use Rattle.card.specs.declared.Card.{Card}
-use Rattle.shelf.specs.Shelves.{empty_shelf, slot_at}
-use Rattle.shelf.specs.declared.Slot.{Slot}
+use Rattle.shelf.specs.Shelves.{Slot, empty_shelf, slot_at}
 use Rattle.shelf.specs.declared.Shelf.{Shelf}
 use Rattle.filing.specs.declared.Issue.{Issue}
 use Rattle.filing.specs.declared.Issue.TheVariants.{NotNamed, Named}
@@ -43,7 +42,8 @@ card_line slot c =
 
 -- one line for a held slot
 unfoldable pub slot_line : ℕ → Slot → List ℕ
-slot_line slot x = cond x.held (card_line slot x.card) []
+slot_line slot None = []
+slot_line slot (Some c) = card_line slot c
 
 -- the 64 slots, rising
 abbrev pub slot_lines : Shelf → List ℕ
