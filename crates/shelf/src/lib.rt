@@ -7,13 +7,13 @@ ghost use Rattle.shelf.specs.Shelves.{slot_at, empty_shelf, put_of, join_shelf};
 use card::Card;
 
 // Each slot holds a card, or none. Slots are compared as std compares options: the empty one is below each that holds a card.
-#[derive(Clone, Copy)]
+#[derive(Clone, Copy, PartialEq, Eq)]
 pub struct Shelf {
     pub slots: [Option<Card>; 64],
 }
 
 // The shelf after a card was put to it, and whether its slot changed.
-#[derive(Clone, Copy)]
+#[derive(Clone, Copy, PartialEq, Eq)]
 pub struct PutDone {
     pub shelf: Shelf,
     pub changed: bool,
