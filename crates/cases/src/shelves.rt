@@ -1,9 +1,10 @@
 // Shelves: fields filed, one shelf joined to another, and what the slots then hold.
 use crate::lines;
 use crate::print::{self, Output};
+use card::Card;
 use filing::{Change, Filed};
 use layout::Refusal;
-use shelf::{Shelf, Slot};
+use shelf::Shelf;
 use std::io;
 
 // The shelf that fields are filed to, and another.
@@ -34,7 +35,7 @@ pub(crate) fn run(
         });
     }
     if order == b'j' {
-        let both = shelf::join(here, other);
+        let both = here.join(other);
         return Ok(Shelves { here: both, other });
     }
     if order == b's' {
@@ -58,34 +59,25 @@ fn show_answer(out: &mut Output, answer: Result<Change, Refusal>) -> io::Result<
 
 fn show_shelf(out: &mut Output, shelf: Shelf) -> io::Result<()> {
     print::text(out, b"held")?;
-    let mut i: usize = 0;
-    while i < 64 {
-        show_slot(out, shelf::slot_of(shelf, i), i)?;
-        i += 1;
+    for (i, slot) in shelf.slots.iter().enumerate() {
+        if let Some(card) = *slot {
+            show_card(out, card, i)?;
+        }
     }
     Ok(())
 }
 
-fn show_slot(out: &mut Output, slot: Slot, i: usize) -> io::Result<()> {
-    if !slot.held {
-        return Ok(());
-    }
-    let card = slot.card;
+fn show_card(out: &mut Output, card: Card, i: usize) -> io::Result<()> {
     print::text(out, b" slot")?;
     print::number(out, i as u64)?;
-    print::signed(out, wide(card.year))?;
+    print::signed(out, i64::from(card.year))?;
     print::number(out, card.month as u64)?;
     print::number(out, card.day as u64)?;
     print::number(out, card.hour as u64)?;
     print::number(out, card.minute as u64)?;
     print::number(out, card.second as u64)?;
     print::number(out, card.issue as u64)?;
-    let product = card.product;
-    show_product(out, product)
-}
-
-fn wide(z: i32) -> i64 {
-    z as i64
+    show_product(out, card.product)
 }
 
 fn show_product(out: &mut Output, product: [u8; 27]) -> io::Result<()> {

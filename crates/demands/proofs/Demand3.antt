@@ -32,12 +32,11 @@ use Rattle.card.specs.Key.{time_of, SameTime, key_of, less_card}
 use Rattle.card.proofs.Strict.{asym, either_less}
 use Rattle.card.proofs.Lex.{lex-front}
 use Rattle.card.proofs.Cards.{key-decides, number-decides, key-at, card-strict}
-use Rattle.shelf.specs.Shelves.{less_slot, holding, empty_shelf, slot_at, put_of, join_shelf}
+use Rattle.shelf.specs.Shelves.{Slot, less_slot, blank, holding, empty_shelf, slot_at, put_of, join_shelf}
 use Rattle.shelf.specs.History.{Keeps}
-use Rattle.shelf.specs.declared.Slot.{Slot}
 use Rattle.shelf.specs.declared.Shelf.{Shelf}
 use Rattle.shelf.specs.declared.PutDone.{PutDone}
-use Rattle.shelf.proofs.Slots.{empty-below, slot_same}
+use Rattle.shelf.proofs.Slots.{blank-below, held-by-cards as by-cards}
 use Rattle.shelf.proofs.Laws.{shelf-join, unchanged-same, changed-differs}
 use Rattle.shelf_octets.specs.ShelfOctets.{shelf_in}
 use Rattle.shelf_octets.proofs.Laws.{tidy-in}
@@ -238,13 +237,13 @@ less-total = either_less card-strict
 pub one-card : (a b : Card) → less_card a b ≡ false → less_card b a ≡ false → a ≡ b
 one-card = card-strict.total
 
--- ---- "a held card beats an empty slot", whatever stands in it; and of two held slots the cards decide
+-- ---- "a held card beats an empty slot"; and of two held slots the cards decide
 
-pub held-beats-empty : (x : Slot) (card : Card) → x.held ≡ false → less_slot x (holding card) ≡ true
-held-beats-empty = empty-below
+pub held-beats-empty : (x : Slot) (card : Card) → x ≡ blank → less_slot x (holding card) ≡ true
+held-beats-empty x card e = ap (λ (y : Slot). less_slot y (holding card)) e ∙ blank-below card
 
 pub held-by-cards : (a b : Card) → less_slot (holding a) (holding b) ≡ less_card a b
-held-by-cards a b = slot_same (holding a) (holding b) refl
+held-by-cards = by-cards
 
 -- ---- "each slot holds the greatest card ever accepted for it, here or in a shelf joined in directly or through others, or is empty"
 

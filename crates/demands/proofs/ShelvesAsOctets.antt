@@ -8,6 +8,7 @@ use mathlib.Core.Path.{◌≡◌, refl, sym, ap, subst⁻¹, ◌∙◌}
 use mathlib.Core.Bool.{Bool, true, false, cond}
 use mathlib.Core.List.{List, [], ◌∷◌}
 use mathlib.Core.Logic.{◌≢◌}
+use Rattle.std.proofs.Common.{Some, None, IfSome}
 use lib.Dec.{eqb}
 use lib.IntN.{ℤ, pos, negsuc, nat_abs, ◌*ℤ◌}
 use lib.ListN.{drop, replicate}
@@ -19,7 +20,7 @@ use Rattle.identification.specs.Section1.{real_year_at}
 use Rattle.identification.specs.declared.Template.{Template}
 use Rattle.identification.specs.declared.Template.TheVariants.{None as no_template, Calendar, Offset, CalendarAndOffset}
 use Rattle.shelf.specs.declared.Shelf.{Shelf}
-use Rattle.shelf.specs.Shelves.{slot_at, empty_shelf, join_shelf}
+use Rattle.shelf.specs.Shelves.{Slot, slot_at, empty_shelf, join_shelf}
 use Rattle.shelf.specs.History.{Keeps}
 use Rattle.shelf_octets.specs.ShelfOctets.{shelf_in, as_octets, join_octets, Held, Stored}
 use Rattle.shelf_octets.proofs.Laws as laws
@@ -174,11 +175,11 @@ none-held-leaves o d = record { given = tt; says = laws.none-held o d }
 given-cards : (s : Shelf) → Stored s → (n : ℕ) → n ≤ 64 → Given (cards_put n s)
 unfolding Given cards_put
 given-cards s t zero h = tt
-given-cards s t (suc n) h = by-held (slot_at s n).held (given-cards s t n (omega arith))
+given-cards s t (suc n) h = by-held (slot_at s n) (t.cards n (omega arith)) (given-cards s t n (omega arith))
   where
-    by-held : (b : Bool) → Given (cards_put n s) → Given (put_if b n (slot_at s n) (cards_put n s))
-    by-held true g = (t.cards n (omega arith), g)
-    by-held false g = g
+    by-held : (x : Slot) → IfSome x Held → Given (cards_put n s) → Given (put_if n x (cards_put n s))
+    by-held None c g = g
+    by-held (Some card) c g = (c, g)
 
 pub any-octets-leave : (o : List ℕ) → AllOctets o → (h : History) × Leaves h o
 any-octets-leave o a = (

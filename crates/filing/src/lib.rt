@@ -46,7 +46,7 @@ pub fn file_by_value<'a>(
         slot, issue, section1, section3, section4, section5, section7,
     );
     match card {
-        Ok(card) => after_put(shelf::put(shelf, slot, card)),
+        Ok(card) => after_put(shelf.put(slot, card)),
         Err(refusal) => Filed {
             shelf,
             answer: Err(refusal),

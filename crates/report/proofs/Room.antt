@@ -2,7 +2,8 @@
 -- Assumes nothing.
 use mathlib.Core.Path.{◌≡◌, refl}
 use mathlib.Core.Bool.{Bool, true, false, cond}
-use mathlib.Core.List.{List, [], ◌∷◌}
+use Rattle.std.proofs.Common.{Some, None}
+use mathlib.Core.List.{List, ◌∷◌}
 use Prim.Native.Nat.{ℕ, ◌+◌, ◌*◌, ◌-◌, ◌^◌, ◌≤◌, ◌<◌}
 use native.Mathlib.Omega.{arith}
 use lib.Dec.{eqb}
@@ -12,8 +13,7 @@ use Rattle.layout.specs.declared.Refusal.{Refusal}
 use Rattle.card.specs.declared.Card.{Card}
 use Rattle.cutting.specs.Cuts.{cut_of}
 use Rattle.cutting.proofs.Taken.{taken}
-use Rattle.shelf.specs.Shelves.{empty_shelf, slot_at}
-use Rattle.shelf.specs.declared.Slot.{Slot}
+use Rattle.shelf.specs.Shelves.{Slot, empty_shelf, slot_at}
 use Rattle.shelf.specs.declared.Shelf.{Shelf}
 use Rattle.filing.specs.Filing.{issue_from}
 use Rattle.filing.specs.declared.Change.{Change}
@@ -50,11 +50,8 @@ card-line slot c =
 
 slot-line : (slot : ℕ) (x : Slot) → length (slot_line slot x) ≤ 190
 unfolding slot_line
-slot-line slot x = by-held x.held
-  where
-    by-held : (b : Bool) → length (cond b (card_line slot x.card) []) ≤ 190
-    by-held true = card-line slot x.card
-    by-held false = omega arith
+slot-line slot None = omega arith
+slot-line slot (Some c) = card-line slot c
 
 slot-lines : (s : Shelf) → length (slot_lines s) ≤ 12160
 slot-lines s = in-turn-most 190 (λ (n : ℕ). slot_line n (slot_at s n)) (λ n. slot-line n (slot_at s n)) 0 64

@@ -6,8 +6,7 @@ use Rattle.octets.specs.Octets.{be_at}
 use Rattle.lent.specs.Rows.{in_turn}
 use Rattle.layout.specs.declared.Refusal.{Refusal}
 use Rattle.card.specs.declared.Card.{Card}
-use Rattle.shelf.specs.Shelves.{empty_shelf, slot_at}
-use Rattle.shelf.specs.declared.Slot.{Slot}
+use Rattle.shelf.specs.Shelves.{Slot, empty_shelf, slot_at}
 use Rattle.shelf.specs.declared.Shelf.{Shelf}
 use Rattle.filing.specs.declared.Change.{Change}
 use Rattle.filing.specs.declared.Change.TheVariants.{Kept, Passed}
@@ -39,7 +38,8 @@ card_line slot c =
 
 -- one line for a held slot
 unfoldable pub slot_line : ℕ → Slot → List ℕ
-slot_line slot x = cond x.held (card_line slot x.card) []
+slot_line slot None = []
+slot_line slot (Some c) = card_line slot c
 
 -- the 64 slots, rising
 abbrev pub slot_lines : Shelf → List ℕ

@@ -14,7 +14,7 @@ use card::Card;
 use filing::Change;
 use layout::Refusal;
 use queue::Counts;
-use shelf::{Shelf, Slot};
+use shelf::Shelf;
 
 // Room for a queue, and for one octet more than the longest may have, so that a longer one is told.
 pub fn queue_buffer() -> [u8; 65537]
@@ -80,21 +80,19 @@ fn slot_lines(out: &mut [u8], at: usize, shelf: Shelf) -> usize
     ensures { written out.new result ≡ append (written out.old at) (slot_lines shelf) }
 {
     let mut next = at;
-    let mut i: usize = 0;
-    while i < 64 {
-        next = slot_line(out, next, i, shelf::slot_of(shelf, i));
-        i += 1;
+    for (i, slot) in shelf.slots.iter().enumerate() {
+        next = slot_line(out, next, i, *slot);
     }
     next
 }
 
-fn slot_line(out: &mut [u8], at: usize, i: usize, slot: Slot) -> usize
+#[tactic(auto, unfolding(crate::specs::Texts::slot_line, lent::specs::Written::append))]
+fn slot_line(out: &mut [u8], at: usize, i: usize, slot: Option<Card>) -> usize
     ensures { written out.new result ≡ append (written out.old at) (slot_line i slot) }
 {
-    if !slot.held {
+    let Some(card) = slot else {
         return at;
-    }
-    let card = slot.card;
+    };
     card_line(out, at, i, card)
 }
 

@@ -1,12 +1,11 @@
 -- What the entries on a shelf's octets answer, and what is then in the lent buffers. A refusal leaves each as it was.
 -- Assumes nothing.
-use Rattle.std.specs.Prelude.{ℕ, ◌≤◌, ◌≡◌, Bool, cond, ◌&&◌, List, [], ◌∷◌, map, eqb, ltb, leb, ℤ, pos, length, replicate, Result, Ok, Err}
+use Rattle.std.specs.Prelude.{ℕ, ◌≤◌, ◌≡◌, Bool, cond, ◌&&◌, List, [], ◌∷◌, map, eqb, ltb, leb, ℤ, pos, length, replicate, Some, None, Result, Ok, Err}
 use Rattle.octets.specs.Octets.{part}
 use Rattle.lent.specs.Lent.{Done, done, done_both, over, with_count, if_room}
 use Rattle.card.specs.declared.Card.{Card}
-use Rattle.shelf.specs.declared.Slot.{Slot}
 use Rattle.shelf.specs.declared.Shelf.{Shelf}
-use Rattle.shelf.specs.Shelves.{slot_at}
+use Rattle.shelf.specs.Shelves.{Slot, slot_at}
 use Rattle.shelf_octets.specs.ShelfOctets.{shelf_in, as_octets, join_octets}
 use Rattle.layout.specs.declared.Refusal.{Refusal}
 use Rattle.filing.specs.declared.Change.{Change}
@@ -73,7 +72,8 @@ card_values c =
 
 -- none, of an empty slot
 unfoldable pub slot_numbers : Slot → List ℤ
-slot_numbers x = cond x.held (card_values x.card) []
+slot_numbers None = []
+slot_numbers (Some c) = card_values c
 
 -- 16 comes before 18
 unfoldable pub slot_shown : List ℕ → ℕ → List ℤ → Done ℕ (List ℤ)

@@ -5,8 +5,9 @@ ghost use Rattle.octets.specs.Octets.{part};
 ghost use Rattle.lent.specs.Lent.{done, done_both, with_count};
 ghost use Rattle.skogmund.specs.Shelves.{emptied, joined, kept_in, filed_field, filed_queue, slot_numbers, slot_shown};
 
+use card::Card;
 use filing::Change;
-use shelf::{Shelf, Slot};
+use shelf::Shelf;
 
 const SHELF: usize = 2624;
 
@@ -36,7 +37,7 @@ pub fn skogmund_join(shelf: &mut [u8], other: &[u8]) -> u64
     }
     let ours = shelf_octets::read(shelf);
     let theirs = shelf_octets::read(other);
-    shelf_octets::write(shelf, shelf::join(ours, theirs));
+    shelf_octets::write(shelf, ours.join(theirs));
     0
 }
 
@@ -123,25 +124,23 @@ pub fn skogmund_slot(shelf: &[u8], slot: u64, values: &mut [i64]) -> u64
     0
 }
 
-fn show_slot(values: &mut [i64], slot: Slot)
+fn show_slot(values: &mut [i64], slot: Option<Card>)
     requires { 64 ≤ length values.old }
     ensures { values.new ≡ with_count (slot_numbers slot) values.old }
 {
-    if !slot.held {
+    let Some(card) = slot else {
         values[0] = 0;
         return;
-    }
-    let card = slot.card;
-    let product = card.product;
+    };
     values[0] = 34;
-    values[1] = card.year as i64;
-    values[2] = card.month as i64;
-    values[3] = card.day as i64;
-    values[4] = card.hour as i64;
-    values[5] = card.minute as i64;
-    values[6] = card.second as i64;
-    values[7] = card.issue as i64;
-    show_product(values, product);
+    values[1] = i64::from(card.year);
+    values[2] = i64::from(card.month);
+    values[3] = i64::from(card.day);
+    values[4] = i64::from(card.hour);
+    values[5] = i64::from(card.minute);
+    values[6] = i64::from(card.second);
+    values[7] = i64::from(card.issue);
+    show_product(values, card.product);
 }
 
 fn show_product(values: &mut [i64], product: [u8; 27])

@@ -1,6 +1,6 @@
 -- `slot_lines`: slot by slot, what is left to write stands behind what is written.
 -- Assumes nothing.
-use Prim.Native.Nat.{ℕ, ◌-◌}
+use Prim.Native.Nat.{ℕ}
 use mathlib.Core.List.{List}
 use Rattle.lent.specs.Written.{written}
 use Rattle.lent.proofs.Written.{Turns}
@@ -13,7 +13,4 @@ abbrev pub line_of : Shelf → ℕ → List ℕ
 line_of shelf n = slot_line n (slot_at shelf n)
 
 abbrev pub invariant-loop-i : goal.invariant-loop-i
-invariant-loop-i l = Turns (written l.initial.out l.at) (line_of l.shelf) 64 (written l.out l.next) l.i
-
-abbrev pub decreases-loop-i : goal.decreases-loop-i
-decreases-loop-i l = 64 - l.i
+invariant-loop-i l = Turns (written l.initial.out l.fn.at) (line_of l.fn.shelf) 64 (written l.out l.next) l.i
