@@ -1,14 +1,16 @@
 -- What a writer has written, call after call.
 -- Assumes nothing.
-use mathlib.Core.Path.{◌≡◌, ap, ap₂, sym, ◌∙◌}
+use mathlib.Core.Path.{◌≡◌, refl, ap, ap₂, sym, ◌∙◌}
 use mathlib.Core.List.{List, [], ◌∷◌, ◌++◌}
 use Prim.Native.Nat.{ℕ, ◌+◌, ◌<◌}
 use lib.ListN.{length, get_or, take}
 use Rattle.std.proofs.lemmas.List.{take_more}
 use Rattle.std.specs.Borrow.{MutBor}
+use Rattle.lent.specs.Rows.{in_turn}
 use Rattle.lent.specs.Written.{Written, written, append}
 use Rattle.lent.specs.Writers.{says, writer, writes}
 use Rattle.lent.specs.declared.Writer.{Writer}
+use Rattle.lent.proofs.Rows.{in_turn-last}
 use Rattle.lent.proofs.Written.{append-both}
 
 -- two texts, one after the other
@@ -27,7 +29,23 @@ octet_then w c u e f = and_then w (c ∷ []) u e f
 pub next_octet : (w : Writer) {x y : Writer} (t : List ℕ) (i : ℕ) → i < length t → x ≡ writes w (take i t) → y ≡ writes x (get_or t i 0 ∷ []) → y ≡ writes w (take (i + 1) t)
 next_octet w t i h e f = rw (take_more t i 0) (and_then w (take i t) (get_or t i 0 ∷ []) e f)
 
--- what then stands in the lent buffer, when the writer is gone: it had that buffer all along, as it has its name
+-- nothing
+pub no_text : (w : Writer) → w ≡ writes w []
+unfolding append
+no_text w = refl
+
+-- ---- a loop that writes the pieces of numbers in turn, of which i are written
+
+pub no_turn : (w : Writer) (f : ℕ → List ℕ) → w ≡ writes w (in_turn f 0 0)
+unfolding append in_turn
+no_turn w f = refl
+
+pub next_turn : (w : Writer) {x y : Writer} (f : ℕ → List ℕ) (i : ℕ) → x ≡ writes w (in_turn f 0 i) → y ≡ writes x (f i) → y ≡ writes w (in_turn f 0 (i + 1))
+next_turn w f i e g = rw (in_turn-last f i) (and_then w (in_turn f 0 i) (f i) e g)
+
+-- ---- when the writer is gone
+
+-- what then stands in the lent buffer: the writer had that one all along, as it has its name
 pub at_last : {room : MutBor (List ℕ)} {out later : List ℕ} {at r : ℕ} {first last : Writer} (t : List ℕ)
     → first ≡ writer room at → room.now ≡ out → r ≡ last.at → (room.ghost_name ≡ last.room.ghost_name → later ≡ last.room.now) → last ≡ writes first t
     → written later r ≡ append (written out at) t
