@@ -1,7 +1,7 @@
 // Shelves: fields filed, one shelf joined to another, and what the slots then hold.
 use crate::lines;
 use crate::print::{self, Output};
-use filing::{Answer, Filed, StoredIssue};
+use filing::{Change, Filed};
 use layout::Refusal;
 use shelf::{Shelf, Slot};
 use std::io;
@@ -48,11 +48,11 @@ pub(crate) fn run(
     Ok(Shelves { here: after, other })
 }
 
-fn show_answer(out: &mut Output, answer: Answer) -> io::Result<()> {
+fn show_answer(out: &mut Output, answer: Result<Change, Refusal>) -> io::Result<()> {
     match answer {
-        Answer::Kept => print::text(out, b"kept"),
-        Answer::Passed => print::text(out, b"passed"),
-        Answer::Refused(x) => print::refusal(out, x),
+        Ok(Change::Kept) => print::text(out, b"kept"),
+        Ok(Change::Passed) => print::text(out, b"passed"),
+        Err(x) => print::refusal(out, x),
     }
 }
 
@@ -131,9 +131,11 @@ fn file_with<'a>(
         return filing::bench_reload(shelf, slot, s1, s3, s4, s5, s7);
     }
     let stored = lines::decimal(lines::word(lines::behind(numbers, b' ')));
-    let StoredIssue::Is(issue) = filing::issue_from(stored as u64) else {
-        let answer = Answer::Refused(Refusal::of(19, 0));
-        return Filed { shelf, answer };
-    };
-    filing::file_by_value(shelf, slot, issue, s1, s3, s4, s5, s7)
+    match filing::issue_from(stored as u64) {
+        Ok(issue) => filing::file_by_value(shelf, slot, issue, s1, s3, s4, s5, s7),
+        Err(refusal) => Filed {
+            shelf,
+            answer: Err(refusal),
+        },
+    }
 }

@@ -2,7 +2,7 @@
 -- Assumes nothing.
 use Prim.Native.Nat.{ℕ, ◌+◌, ◌-◌, ◌≤◌}
 use native.Mathlib.Omega.{arith}
-use mathlib.Core.Path.{◌≡◌, refl, ap, sym, ◌∙◌}
+use mathlib.Core.Path.{◌≡◌, refl, ap, sym, subst, ◌∙◌}
 use mathlib.Core.Bool.{Bool, true, false, cond}
 use mathlib.Core.Logic.{◌⊎◌, inl, inr, ⊎_elim}
 use mathlib.Core.List.{List, ◌++◌, Memᴰ}
@@ -10,6 +10,7 @@ use lib.Dec.{ltb}
 use lib.ListN.{length, take, drop, length-append, length-drop}
 use lib.Seq.{length-take-le, take-length, take-append-le}
 use borrow.Author.Tests.{ltb-false, le-ltb}
+use Rattle.std.specs.Prelude.{Some, None}
 use Rattle.octets.specs.Octets.{be_at}
 use Rattle.octets.proofs.Laws.{be_at-drop, be_at-ahead, be_at-take}
 use Rattle.cutting.specs.Cuts.{no_item, item, cut_of, strung}
@@ -98,11 +99,11 @@ size-after s start = let place : 1 + start ≡ start + 1 = omega arith in be_at-
 
 -- by the length octets behind `start`, and as many octets as are there
 pub end_by_size : (s : List ℕ) (start : ℕ)
-    → end_after s start ≡ cond (ltb (be_at s (start + 1) 4) 5) 0 (cond (ltb (length s - start) (be_at s (start + 1) 4)) 0 (start + be_at s (start + 1) 4))
+    → end_after s start ≡ cond (ltb (be_at s (start + 1) 4) 5) None (cond (ltb (length s - start) (be_at s (start + 1) 4)) None (Some (start + be_at s (start + 1) 4)))
 unfolding end_after section_step
 end_by_size s start = rw (size-after s start, length-drop start s) (told _ _ (ltb (be_at s (start + 1) 4) 5) (ltb (length s - start) (be_at s (start + 1) 4)))
   where
-    told : (x : List ℕ) (n : ℕ) (t u : Bool) → end_of start (cond t no_item (cond u no_item (item x n))) ≡ cond t 0 (cond u 0 (start + n))
+    told : (x : List ℕ) (n : ℕ) (t u : Bool) → end_of start (cond t no_item (cond u no_item (item x n))) ≡ cond t None (cond u None (Some (start + n)))
     told x n true u = refl
     told x n false true = refl
     told x n false false = refl
@@ -113,18 +114,31 @@ pub record EndsAfter (s : List ℕ) (start end : ℕ) : Type 0 where
   pub inside : end ≤ length s
   pub found : section_step (drop start s) ≡ item (stretch s start end) (end - start)
 
-pub ends-or-none : (s : List ℕ) (start : ℕ) → ((end_after s start ≡ 0) × (section_step (drop start s) ≡ no_item)) ⊎ EndsAfter s start (end_after s start)
+pub ends-or-none : (s : List ℕ) (start : ℕ) → ((end_after s start ≡ None) × (section_step (drop start s) ≡ no_item)) ⊎ ((end : ℕ) × (end_after s start ≡ Some end) × EndsAfter s start end)
 unfolding end_after
 ends-or-none s start = ⊎_elim (λ e. inl (ap (end_of start) e, e)) (λ w. inr (stands w)) (whole-or-none (drop start s))
   where
-    stands : WholeSection (drop start s) → EndsAfter s start (end_after s start)
+    stands : WholeSection (drop start s) → (end : ℕ) × (end_after s start ≡ Some end) × EndsAfter s start end
     stands w =
         let n = be_at (drop start s) 1 4 in
         let found = whole-step (drop start s) w in
-        let ends : end_after s start ≡ start + n = ap (end_of start) found in
-        let size : end_after s start - start ≡ n = omega (arith, ends) in
-        record {
-          later = omega (arith, ends, w.least);
-          inside = omega (arith, ends, w.least, w.inside, length-drop start s);
-          found = found ∙ ap (λ (k : ℕ). item (take k (drop start s)) k) (sym size);
-        }
+        let size : start + n - start ≡ n = omega arith in (
+          start + n,
+          ap (end_of start) found,
+          record {
+            later = omega (arith, w.least);
+            inside = omega (arith, w.least, w.inside, length-drop start s);
+            found = found ∙ ap (λ (k : ℕ). item (take k (drop start s)) k) (sym size);
+          },
+        )
+
+-- so where an end is answered, a section stands, and none where none is
+pub stands-after : (s : List ℕ) (start end : ℕ) → end_after s start ≡ Some end → EndsAfter s start end
+stands-after s start end e =
+    ⊎_elim (λ n. let gone : None ≡ Some end = sym n.0 ∙ e in let z : ◌≡◌ {A = ℕ} 0 1 = cc in absurd (omega arith))
+    (λ x. let same : x.0 ≡ end = let both : Some x.0 ≡ Some end = sym x.1 ∙ e in cc in subst (EndsAfter s start) same x.2)
+    (ends-or-none s start)
+
+pub none_after : (s : List ℕ) (start : ℕ) → end_after s start ≡ None → section_step (drop start s) ≡ no_item
+none_after s start e =
+    ⊎_elim (λ n. n.1) (λ x. let gone : None ≡ Some x.0 = sym e ∙ x.1 in let z : ◌≡◌ {A = ℕ} 0 1 = cc in absurd (omega arith)) (ends-or-none s start)

@@ -1,6 +1,6 @@
 -- Sections one after the other, as messages and bodies have them: octets 1-4 of a section say how many octets it has.
 -- Assumes nothing.
-use Rattle.std.specs.Prelude.{ℕ, ◌+◌, ◌-◌, ◌≤◌, ◌≡◌, List, cond, ltb, length, take, drop}
+use Rattle.std.specs.Prelude.{ℕ, ◌+◌, ◌-◌, ◌≤◌, ◌≡◌, List, cond, ltb, length, take, drop, Option, Some, None}
 use Rattle.octets.specs.Octets.{be_at}
 use Rattle.cutting.specs.Cuts.{Step, no_item, item}
 
@@ -18,11 +18,11 @@ unfoldable pub section_step : List ℕ → Step (List ℕ)
 section_step s =
     cond (ltb (be_at s 1 4) 5) no_item (cond (ltb (length s) (be_at s 1 4)) no_item (item (take (be_at s 1 4) s) (be_at s 1 4)))
 
--- where a section ends that is found, or 0
-abbrev pub end_of : ℕ → Step (List ℕ) → ℕ
-end_of start no_item = 0
-end_of start (item x size) = start + size
+-- where a section ends that is found
+abbrev pub end_of : ℕ → Step (List ℕ) → Option ℕ
+end_of start no_item = None
+end_of start (item x size) = Some (start + size)
 
--- after how many octets the section ends that starts after `start` octets, or 0 where none stands
-unfoldable pub end_after : List ℕ → ℕ → ℕ
+-- after how many octets the section ends that starts after `start` octets, if one stands there
+unfoldable pub end_after : List ℕ → ℕ → Option ℕ
 end_after s start = end_of start (section_step (drop start s))

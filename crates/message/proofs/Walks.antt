@@ -4,17 +4,17 @@ use Prim.Native.Nat.{ℕ, ◌+◌, ◌-◌, ◌≤◌, ◌<◌}
 use native.Mathlib.Omega.{arith}
 use mathlib.Core.Path.{◌≡◌, ap, sym, ◌∙◌}
 use mathlib.Core.Bool.{Bool, cond}
-use mathlib.Core.Logic.{⊎_elim}
 use mathlib.Core.List.{List, ◌∷◌}
 use lib.Dec.{eqb}
 use lib.ListN.{length, drop, length-drop}
 use lib.Seq.{length-take-le, drop-drop}
 use borrow.Author.Tests.{eq-eqb, ne_eqb}
+use Rattle.std.specs.Prelude.{None}
 use Rattle.layout.specs.Outcomes.{refusal}
 use Rattle.cutting.specs.Cuts.{in_front, cut_of}
 use Rattle.cutting.specs.Sections.{stretch, section_step, end_after}
 use Rattle.cutting.proofs.Cuts.{cut-item, cut-stopped, cut-end}
-use Rattle.cutting.proofs.Sections.{EndsAfter, ends-or-none, sections-advance}
+use Rattle.cutting.proofs.Sections.{EndsAfter, none_after, sections-advance}
 use Rattle.message.specs.declared.Sections.{Sections}
 use Rattle.message.specs.declared.Cut.{Cut}
 use Rattle.message.specs.Walk.{Walk, number_in, section_refusal, end_refusal, in_force, one_more, with_section, taken, unless_refused, refused_with, judged_in, judged}
@@ -40,18 +40,11 @@ module _ (body : List ℕ) (right : Bool) (w : Walk) (at : ℕ) where
   unfolding judged_in
   walk_end l = sym (ap (judged right at w) (cut-end section_step sections-advance (drop at body) (omega (arith, length-drop at body))))
 
-  pub walk-stopped : at < length body → end_after body at ≡ 0 → refused_with (refusal 23 0 0) ≡ judged_from body right w at
+  pub walk-stopped : at < length body → end_after body at ≡ None → refused_with (refusal 23 0 0) ≡ judged_from body right w at
   unfolding judged_in
-  walk-stopped l e =
-      ⊎_elim
-      (λ n. sym (ap (judged right at w) (cut-stopped section_step sections-advance (drop at body) (omega (arith, length-drop at body)) n.1)))
-      (λ s. absurd (omega (arith, s.later, e)))
-      (ends-or-none body at)
+  walk-stopped l e = sym (ap (judged right at w) (cut-stopped section_step sections-advance (drop at body) (omega (arith, length-drop at body)) (none_after body at e)))
 
 -- a section stands there
-pub stands : (body : List ℕ) (at end : ℕ) → end ≡ end_after body at → (end ≡ 0 → ⊥) → EndsAfter body at end
-stands body at end e some = ⊎_elim (λ n. absurd (some (e ∙ n.0))) (λ s. rw e s) (ends-or-none body at)
-
 module _ (body : List ℕ) (right : Bool) (w : Walk) (at end : ℕ) (s : EndsAfter body at end) where
   -- what is left is that section and the rest
   next : cut_of section_step (drop at body) ≡ in_front (stretch body at end) (cut_of section_step (drop end body))

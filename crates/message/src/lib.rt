@@ -210,11 +210,10 @@ fn walk_sections(body: &[u8], right: bool) -> Cut
     let mut cut = refused_with(Refusal::none());
     let mut at: usize = 16;
     while at < body.len() {
-        let end = cutting::end_after(body, at);
-        if end == 0 {
+        let Some(end) = cutting::end_after(body, at) else {
             cut = refused_with(Refusal::of(23, 0));
             return cut;
-        }
+        };
         let section = cutting::stretch(body, at, end);
         let refusal = section_refusal(section, last, cut.count);
         if refusal.number != 0 {

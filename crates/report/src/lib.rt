@@ -11,9 +11,9 @@ ghost use Rattle.lent.specs.Written.{written, append, starts_with};
 ghost use Rattle.report.specs.Texts.{counts_line, refused_line, card_line, slot_line, slot_lines, filed_listing, listing_of, issue_text, refused_fate, fate, record_line, record_lines, filed_explanation, explanation_of, listing, explanation};
 
 use card::Card;
-use filing::{Answer, Issue};
+use filing::Change;
 use layout::Refusal;
-use queue::{Counts, QueueAnswer, Record};
+use queue::Counts;
 use shelf::{Shelf, Slot};
 
 // Room for a queue, and for one octet more than the longest may have, so that a longer one is told.
@@ -44,6 +44,7 @@ pub fn whole_listing(queue: &[u8], out: &mut [u8; 16384]) -> usize
 }
 
 // As much of the listing as there is room for.
+#[tactic(auto, unfolding(crate::specs::Texts::listing))]
 pub fn listing(queue: &[u8], out: &mut [u8]) -> usize
     ensures { written out.new result ≡ append (written out.old 0) (listing queue.now) }
 {
@@ -53,12 +54,13 @@ pub fn listing(queue: &[u8], out: &mut [u8]) -> usize
     list(out, shelf, answer)
 }
 
-fn list(out: &mut [u8], shelf: Shelf, answer: QueueAnswer) -> usize
+#[tactic(auto, unfolding(crate::specs::Texts::listing_of))]
+fn list(out: &mut [u8], shelf: Shelf, answer: Result<Counts, Refusal>) -> usize
     ensures { written out.new result ≡ append (written out.old 0) (listing_of shelf answer) }
 {
     match answer {
-        QueueAnswer::Filed(counts) => list_filed(out, shelf, counts),
-        QueueAnswer::Refused(x) => refused_line(out, x),
+        Ok(counts) => list_filed(out, shelf, counts),
+        Err(x) => refused_line(out, x),
     }
 }
 
@@ -148,6 +150,7 @@ pub fn whole_explanation(queue: &[u8], out: &mut [u8; 2163200]) -> usize
 }
 
 // As much of the explanation as there is room for. The queue is filed once for the counts, and then each record again for its line.
+#[tactic(auto, unfolding(crate::specs::Texts::explanation))]
 pub fn explanation(queue: &[u8], out: &mut [u8]) -> usize
     ensures { written out.new result ≡ append (written out.old 0) (explanation queue.now) }
 {
@@ -156,12 +159,13 @@ pub fn explanation(queue: &[u8], out: &mut [u8]) -> usize
     explain(out, queue, answer)
 }
 
-fn explain(out: &mut [u8], queue: &[u8], answer: QueueAnswer) -> usize
+#[tactic(auto, unfolding(crate::specs::Texts::explanation_of))]
+fn explain(out: &mut [u8], queue: &[u8], answer: Result<Counts, Refusal>) -> usize
     ensures { written out.new result ≡ append (written out.old 0) (explanation_of (cut_of record_step queue.now).items answer) }
 {
     match answer {
-        QueueAnswer::Filed(counts) => explain_filed(out, queue, counts),
-        QueueAnswer::Refused(x) => refused_line(out, x),
+        Ok(counts) => explain_filed(out, queue, counts),
+        Err(x) => refused_line(out, x),
     }
 }
 
@@ -182,7 +186,7 @@ fn record_lines(out: &mut [u8], at: usize, queue: &[u8]) -> usize
     let mut i: usize = 0;
     while i < queue.len() {
         let rest = &queue[i..];
-        let Record::Whole(head) = queue::record_of(rest) else {
+        let Some(head) = queue::record_of(rest) else {
             return next;
         };
         let filed = queue::file_record(shelf, rest, head);
@@ -196,7 +200,14 @@ fn record_lines(out: &mut [u8], at: usize, queue: &[u8]) -> usize
     next
 }
 
-fn record_line(out: &mut [u8], at: usize, k: u64, slot: u64, issue: Issue, answer: Answer) -> usize
+fn record_line(
+    out: &mut [u8],
+    at: usize,
+    k: u64,
+    slot: u64,
+    issue: Option<u32>,
+    answer: Result<Change, Refusal>,
+) -> usize
     ensures { written out.new result ≡ append (written out.old at) (record_line k slot issue answer) }
 {
     let a = text::number_then(out, at, k, b' ');
@@ -205,22 +216,22 @@ fn record_line(out: &mut [u8], at: usize, k: u64, slot: u64, issue: Issue, answe
     fate(out, c, answer)
 }
 
-fn issue_text(out: &mut [u8], at: usize, issue: Issue) -> usize
+fn issue_text(out: &mut [u8], at: usize, issue: Option<u32>) -> usize
     ensures { written out.new result ≡ append (written out.old at) (issue_text issue) }
 {
-    let Issue::Named(n) = issue else {
-        return lent::octet(out, at, b'-');
-    };
-    text::number(out, at, n as u64)
+    match issue {
+        Some(n) => text::number(out, at, n as u64),
+        None => lent::octet(out, at, b'-'),
+    }
 }
 
-fn fate(out: &mut [u8], at: usize, answer: Answer) -> usize
+fn fate(out: &mut [u8], at: usize, answer: Result<Change, Refusal>) -> usize
     ensures { written out.new result ≡ append (written out.old at) (fate answer) }
 {
     match answer {
-        Answer::Kept => lent::octets(out, at, b" kept\n"),
-        Answer::Passed => lent::octets(out, at, b" passed\n"),
-        Answer::Refused(x) => refused_fate(out, at, x),
+        Ok(Change::Kept) => lent::octets(out, at, b" kept\n"),
+        Ok(Change::Passed) => lent::octets(out, at, b" passed\n"),
+        Err(x) => refused_fate(out, at, x),
     }
 }
 

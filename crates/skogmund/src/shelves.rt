@@ -5,17 +5,13 @@ ghost use Rattle.octets.specs.Octets.{part};
 ghost use Rattle.lent.specs.Lent.{done, done_both, with_count};
 ghost use Rattle.skogmund.specs.Shelves.{emptied, joined, kept_in, filed_field, filed_queue, slot_numbers, slot_shown};
 
-use filing::{Answer, StoredIssue};
-use queue::QueueAnswer;
+use filing::Change;
 use shelf::{Shelf, Slot};
 
 const SHELF: usize = 2624;
 
 // 16: no shelf has the slot.
 const NO_SLOT: u64 = 16 * 0x100_0000_0000;
-
-// 19: issue + 1 is no number of a queue.
-const MALFORMED: u64 = 19 * 0x100_0000_0000;
 
 // The empty shelf.
 pub fn skogmund_empty(shelf: &mut [u8]) -> u64
@@ -58,8 +54,9 @@ pub fn skogmund_file<'s, 'a, 'k>(
 ) -> u64
     ensures { done_both result shelf.new kept.new ≡ filed_field shelf.old slot issue_plus_1 section1.now section3.now section4.now section5.now section7.now kept.old }
 {
-    let StoredIssue::Is(issue) = filing::issue_from(issue_plus_1) else {
-        return MALFORMED;
+    let issue = match filing::issue_from(issue_plus_1) {
+        Ok(issue) => issue,
+        Err(x) => return crate::code(x),
     };
     let done = filing::file_by_value(
         shelf_octets::read(shelf),
@@ -71,12 +68,10 @@ pub fn skogmund_file<'s, 'a, 'k>(
         section5,
         section7,
     );
-    let after = done.shelf;
-    let answer = done.answer;
-    match answer {
-        Answer::Kept => keep(shelf, kept, after, &[1]),
-        Answer::Passed => keep(shelf, kept, after, &[0]),
-        Answer::Refused(x) => crate::code(x),
+    match done.answer {
+        Ok(Change::Kept) => keep(shelf, kept, done.shelf, &[1]),
+        Ok(Change::Passed) => keep(shelf, kept, done.shelf, &[0]),
+        Err(x) => crate::code(x),
     }
 }
 
@@ -99,16 +94,14 @@ pub fn skogmund_file_queue(shelf: &mut [u8], queue: &[u8], counts: &mut [u64]) -
     ensures { done_both result shelf.new counts.new ≡ filed_queue shelf.old queue.now counts.old }
 {
     let done = queue::file(shelf_octets::read(shelf), queue);
-    let after = done.shelf;
-    let answer = done.answer;
-    match answer {
-        QueueAnswer::Filed(n) => keep(
+    match done.answer {
+        Ok(n) => keep(
             shelf,
             counts,
-            after,
+            done.shelf,
             &[n.kept as u64, n.passed as u64, n.refused as u64],
         ),
-        QueueAnswer::Refused(x) => crate::code(x),
+        Err(x) => crate::code(x),
     }
 }
 

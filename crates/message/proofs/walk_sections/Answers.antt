@@ -8,10 +8,10 @@ use lib.ListN.{length}
 use Rattle.layout.specs.declared.Refusal.{Refusal}
 use borrow.Author.Rules.{rules}
 use borrow.Author.Tests.{eq-eqb, ne_eqb}
-use Rattle.cutting.proofs.Sections.{EndsAfter}
+use Rattle.cutting.proofs.Sections.{EndsAfter, stands-after}
 use Rattle.message.specs.Walk.{number_in, section_refusal, refused_with, unless_refused}
 use Rattle.message.proofs.Clear.{clear}
-use Rattle.message.proofs.Walks.{stands, walk-on, walk-stopped, walk_refused, walk_end}
+use Rattle.message.proofs.Walks.{walk-on, walk-stopped, walk_refused, walk_end}
 use Rattle.message.proofs.walk_sections.Goals as goal
 
 -- no section has a refusal where the one that is told has none; `x` is the section that is lent, and `y` what it is
@@ -29,17 +29,17 @@ loop-at-init c =
     let a = c.args in
     simp (c.no_sections-force.ensures, c.refused_with-cut.ensures, c.none.ensures)
 
-pub returns-then-end-eq0 : goal.returns-then-end-eq0
-returns-then-end-eq0 c =
+pub returns-in_default : goal.returns-in_default
+returns-in_default c =
     let a = c.args in
-    c.refused_with-cut-then-end-eq0.ensures
+    c.refused_with-cut-in_default.ensures
     ∙ ap refused_with c.of.ensures
-    ∙ walk-stopped a.body.now a.right _ c.loop-at.at c.loop-at-test.true (sym c.end_after-end.ensures ∙ c.if-end-eq0.true)
+    ∙ walk-stopped a.body.now a.right _ c.loop-at.at c.loop-at-test.true (sym c.end_after.ensures ∙ c.in_default.is)
     ∙ c.loop-at.invariant
 
 pub returns-then-refusal-ne0 : goal.returns-then-refusal-ne0
 returns-then-refusal-ne0 c =
-    let there = stands c.args.body.now c.loop-at.at _ c.end_after-end.ensures c.if-end-eq0.false in
+    let there = stands-after c.args.body.now c.loop-at.at _ (sym c.end_after.ensures ∙ c.in-Some.is) in
     let refusal_is = refusal-is c.loop-at.last c.loop-at.cut.count c.section_refusal-refusal.ensures c.stretch-section.ensures in
     let a = c.args in
     c.refused_with-cut-then-refusal-ne0.ensures
@@ -49,7 +49,7 @@ returns-then-refusal-ne0 c =
 
 pub overflow_sub-length : goal.overflow_sub-length
 overflow_sub-length c =
-    let there = stands c.args.body.now c.loop-at.at _ c.end_after-end.ensures c.if-end-eq0.false in
+    let there = stands-after c.args.body.now c.loop-at.at _ (sym c.end_after.ensures ∙ c.in-Some.is) in
     omega (arith, there.later)
 
 pub offset_bounds-cut-cut : goal.offset_bounds-cut-cut
@@ -71,24 +71,24 @@ overflow_add-cut c =
 
 pub loop-at-smaller-then-last-eq-DATA : goal.loop-at-smaller-then-last-eq-DATA
 loop-at-smaller-then-last-eq-DATA c =
-    let there = stands c.args.body.now c.loop-at.at _ c.end_after-end.ensures c.if-end-eq0.false in
+    let there = stands-after c.args.body.now c.loop-at.at _ (sym c.end_after.ensures ∙ c.in-Some.is) in
     shorter c.args.body.now c.loop-at.at _ there
 
 pub loop-at-preserved-then-last-eq-DATA : goal.loop-at-preserved-then-last-eq-DATA
 loop-at-preserved-then-last-eq-DATA c =
-    let there = stands c.args.body.now c.loop-at.at _ c.end_after-end.ensures c.if-end-eq0.false in
+    let there = stands-after c.args.body.now c.loop-at.at _ (sym c.end_after.ensures ∙ c.in-Some.is) in
     let cleared = none-is c.loop-at.last c.loop-at.cut.count c.section_refusal-refusal.ensures c.stretch-section.ensures c.if-refusal-ne0.false in
     let met = c.u8_at-last.ensures ∙ ap number_in c.stretch-section.ensures in
     walk-on c.args.body.now c.args.right _ c.loop-at.at _ there _ _ _ met c.in_force-force.ensures (rw (eq-eqb _ 7 c.if-last-eq-DATA.true)) cleared ∙ c.loop-at.invariant
 
 pub loop-at-smaller : goal.loop-at-smaller
 loop-at-smaller c =
-    let there = stands c.args.body.now c.loop-at.at _ c.end_after-end.ensures c.if-end-eq0.false in
+    let there = stands-after c.args.body.now c.loop-at.at _ (sym c.end_after.ensures ∙ c.in-Some.is) in
     shorter c.args.body.now c.loop-at.at _ there
 
 pub loop-at-preserved : goal.loop-at-preserved
 loop-at-preserved c =
-    let there = stands c.args.body.now c.loop-at.at _ c.end_after-end.ensures c.if-end-eq0.false in
+    let there = stands-after c.args.body.now c.loop-at.at _ (sym c.end_after.ensures ∙ c.in-Some.is) in
     let cleared = none-is c.loop-at.last c.loop-at.cut.count c.section_refusal-refusal.ensures c.stretch-section.ensures c.if-refusal-ne0.false in
     let met = c.u8_at-last.ensures ∙ ap number_in c.stretch-section.ensures in
     walk-on c.args.body.now c.args.right _ c.loop-at.at _ there _ _ _ met c.in_force-force.ensures (rw (ne_eqb _ 7 c.if-last-eq-DATA.false)) cleared ∙ c.loop-at.invariant

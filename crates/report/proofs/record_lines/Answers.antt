@@ -41,20 +41,20 @@ overflow_add-k c =
 
 pub overflow_add-i : goal.overflow_add-i
 overflow_add-i c =
-    let on : RecordAt c.args.queue.now c.loop-i.i c.in-Whole.head = record-at c.args.queue.now c.loop-i.i _ c.loop-i.invariant.inside (sym c.record_of.ensures ∙ c.in-Whole.is) in
+    let on : RecordAt c.args.queue.now c.loop-i.i c.in-Some.head = record-at c.args.queue.now c.loop-i.i _ c.loop-i.invariant.inside (sym c.record_of.ensures ∙ c.in-Some.is) in
     omega (arith, (on).inside, c.well_formed)
 
 pub loop-i-smaller : goal.loop-i-smaller
 loop-i-smaller c =
-    let on : RecordAt c.args.queue.now c.loop-i.i c.in-Whole.head = record-at c.args.queue.now c.loop-i.i _ c.loop-i.invariant.inside (sym c.record_of.ensures ∙ c.in-Whole.is) in
+    let on : RecordAt c.args.queue.now c.loop-i.i c.in-Some.head = record-at c.args.queue.now c.loop-i.i _ c.loop-i.invariant.inside (sym c.record_of.ensures ∙ c.in-Some.is) in
     omega (arith, (on).more, (on).inside)
 
 pub loop-i-preserved : goal.loop-i-preserved
 unfolding record_lines
 loop-i-preserved c =
-    let on : RecordAt c.args.queue.now c.loop-i.i c.in-Whole.head = record-at c.args.queue.now c.loop-i.i _ c.loop-i.invariant.inside (sym c.record_of.ensures ∙ c.in-Whole.is) in
+    let on : RecordAt c.args.queue.now c.loop-i.i c.in-Some.head = record-at c.args.queue.now c.loop-i.i _ c.loop-i.invariant.inside (sym c.record_of.ensures ∙ c.in-Some.is) in
     let q = c.args.queue.now in
-    let h = c.in-Whole.head in
+    let h = c.in-Some.head in
     let r = record_in (rest_at q c.loop-i.i) h in
     let x = written c.loop-i.out c.loop-i.next in
     let k = c.loop-i.k in
