@@ -43,6 +43,20 @@ no_turn w f = refl
 pub next_turn : (w : Writer) {x y : Writer} (f : ℕ → List ℕ) (i : ℕ) → x ≡ writes w (in_turn f 0 i) → y ≡ writes x (f i) → y ≡ writes w (in_turn f 0 (i + 1))
 next_turn w f i e g = rw (in_turn-last f i) (and_then w (in_turn f 0 i) (f i) e g)
 
+-- ---- a loop that writes piece after piece: what is left, written behind what is written so far, makes the whole
+
+pub record Writing (first : Writer) (all : List ℕ) (here : Writer) (rest : List ℕ) : Type 0 where
+  pub left : writes here rest ≡ writes first all
+
+module _ (first : Writer) (all : List ℕ) (x : Writer) where
+  -- the next piece, and what is left then
+  pub writes_on : {y : Writer} {rest : List ℕ} (t later : List ℕ) → Writing first all x rest → rest ≡ t ++ later → y ≡ writes x t → Writing first all y later
+  writes_on t later w p e = record { left = ap (λ (v : Writer). writes v later) e ∙ sym (writes_both x t later) ∙ sym (ap (writes x) p) ∙ w.left }
+
+  pub writes_all : {rest : List ℕ} → Writing first all x rest → rest ≡ [] → x ≡ writes first all
+  unfolding append
+  writes_all w e = sym (ap (writes x) e) ∙ w.left
+
 -- ---- when the writer is gone
 
 -- what then stands in the lent buffer: the writer had that one all along, as it has its name
