@@ -12,7 +12,6 @@ ghost use Rattle.std.specs.Prelude.{◌≡◌, length, IfOk, vec_len};
 use print::Output;
 use shelf::Shelf;
 use shelves::Shelves;
-use standard::Input;
 use std::alloc::{AllocError, Global};
 use std::io;
 use std::io::{BufWriter, Write};
@@ -27,14 +26,10 @@ mod unpacked;
 
 fn main(rt: HostRuntime) -> io::Result<()> {
     let mut room = input_buffer(rt.alloc())?;
-    match standard::read_all(&rt, &mut room) {
-        Input::Octets(n) => {
-            let mut out = BufWriter::new(rt.alloc(), rt.stdout())?;
-            run(&mut out, &room[..n])?;
-            out.flush()
-        }
-        Input::Failed(why) => Err(why),
-    }
+    let n = standard::read_all(&rt, &mut room)?;
+    let mut out = BufWriter::new(rt.alloc(), rt.stdout())?;
+    run(&mut out, &room[..n])?;
+    out.flush()
 }
 
 // One line after the other.
