@@ -89,13 +89,15 @@ fn run_unpacking(out: &mut Output, line: &[u8]) -> io::Result<()> {
     let n7 = lines::section_in(behind_5, &mut room_7);
     let places = lines::decimal(lines::word(lines::behind(lines::behind(behind_5, b'/'), b' ')));
     let mut row = row_buffer();
-    unpacked::show(
-        out,
-        octets::part_after(&room_5, 0, n5),
-        octets::part_after(&room_7, 0, n7),
-        &mut row,
-        places,
-    )
+    if let Some(row) = row.get_mut(..places) {
+        unpacked::show(
+            out,
+            octets::part_after(&room_5, 0, n5),
+            octets::part_after(&room_7, 0, n7),
+            row,
+        )?;
+    }
+    Ok(())
 }
 
 // Room for the whole input, for a section that is longer than any may be, and for a row of as many values as any has. Each `ensures`

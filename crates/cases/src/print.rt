@@ -1,5 +1,6 @@
 // What the program prints: on a buffered standard output, of which a contract can say nothing.
 use layout::Refusal;
+use std::fmt::Display;
 use std::io;
 use std::io::{BufWriter, Stdout, Write};
 
@@ -11,7 +12,7 @@ pub(crate) fn text(out: &mut Output, words: &[u8]) -> io::Result<()> {
 }
 
 // A number, as a word of a line.
-pub(crate) fn number(out: &mut Output, n: u64) -> io::Result<()> {
+pub(crate) fn number(out: &mut Output, n: impl Display + Drop) -> io::Result<()> {
     write!(out, " {n}")
 }
 
@@ -20,7 +21,7 @@ pub(crate) fn signed(out: &mut Output, z: i64) -> io::Result<()> {
     if z == i64::MIN {
         text(out, b" missing")
     } else {
-        write!(out, " {z}")
+        number(out, z)
     }
 }
 
@@ -32,7 +33,7 @@ pub(crate) fn refusal(out: &mut Output, x: Refusal) -> io::Result<()> {
 pub(crate) fn part(out: &mut Output, name: &[u8], part: &[u8]) -> io::Result<()> {
     let n = part.len();
     text(out, name)?;
-    write!(out, " {n}")?;
+    number(out, n)?;
     if n == 0 {
         return Ok(());
     }
