@@ -29,7 +29,7 @@ pub(crate) fn section(alloc: Global, text: &[u8]) -> Result<Vec<u8>, AllocError>
 }
 
 // The sections of a line, one behind each `/`.
-#[derive(Clone, Copy)]
+#[derive(Drop)]
 pub(crate) struct Sections<'a> {
     rest: &'a [u8],
 }

@@ -28,6 +28,7 @@ pub fn run<P: Program<ROOM>, const ROOM: usize>(
     }
 }
 
+// The text of what is read.
 fn answer<'a, P: Program<ROOM>, const ROOM: usize>(
     rt: &HostRuntime,
     buf: &mut [u8],
