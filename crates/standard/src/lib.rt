@@ -41,7 +41,7 @@ fn answer<'a, P: Program<ROOM>, const ROOM: usize>(
 }
 
 // Reads until the input ends or the buffer is full: how many octets, at the start of the buffer, or why a read failed. A read that fails is told
-// from the end of the input.
+// from the end of the input. A `while`, since each read says for itself how far it came.
 pub fn read_all(rt: &HostRuntime, buf: &mut [u8]) -> io::Result<usize>
     ensures { Holds result buf.new }
 {
