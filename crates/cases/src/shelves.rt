@@ -99,9 +99,7 @@ fn file(alloc: Global, line: &[u8], order: u8, shelf: Shelf) -> Result<Filed, Al
     }
     let stored = lines::decimal(lines::word(line, 2));
     match filing::issue_from(stored as u64) {
-        Ok(issue) => Ok(filing::file_by_value(
-            shelf, slot, issue, &s1, &s3, &s4, &s5, &s7,
-        )),
+        Ok(issue) => Ok(filing::file_by_value(shelf, slot, issue, &s1, &s3, &s4, &s5, &s7)),
         Err(refusal) => Ok(Filed {
             shelf,
             answer: Err(refusal),
