@@ -1,30 +1,28 @@
--- Lists of octets compared from the left, one after the other.
+-- The octets of a product, one by one.
 -- Assumes nothing.
-use mathlib.Core.Path.{◌≡◌, ap, ap₂, ◌∙◌}
-use mathlib.Core.Bool.{true, false, cond}
-use mathlib.Core.List.{List, ◌∷◌, map}
-use Prim.Native.Nat.{ℕ, ◌+◌, ◌<◌, ◌≤◌}
-use native.Mathlib.Numerals.{add-one}
-use lib.ListN.{length, drop, get_or, drop_of_length-le}
-use lib.Seq.{drop-cons}
-use lib.Dec.{ltb}
-use lib.IntN.{ℤ, pos}
-use lib.Signed.{lt_z}
-use Rattle.card.specs.Order.{lex}
+use mathlib.Core.Path.{◌≡◌, sym, ap, ◌∙◌}
+use mathlib.Core.List.{List}
+use Prim.Native.Nat.{ℕ, zero, suc, ◌+◌, ◌-◌, ◌^◌, ◌≤◌, ◌<◌, min}
+use native.Mathlib.Decide.{dec_le}
+use native.Mathlib.Omega.{arith}
+use native.Mathlib.Nat.{add-zero}
+use lib.ListN.{length, get_or}
+use Rattle.octets.specs.Octets.{part, be_at}
+use Rattle.octets.proofs.Laws.{be_at-one, be_at-past}
 
--- what the octets from i on say
-abbrev pub from : List ℕ → ℕ → List ℤ
-from xs i = map pos (drop i xs)
+-- the octet at an index of a part
+pub octet_in : (s : List ℕ) (at width i : ℕ) → i < width → get_or (part s at width) i 0 ≡ be_at s (at + i) 1
+unfolding part
+octet_in s at zero i h = absurd (omega arith)
+octet_in s at (suc width) zero h = sym (be_at-one s at) ∙ ap (λ (n : ℕ). be_at s n 1) (sym (add-zero at))
+octet_in s at (suc width) (suc i) h =
+    let further : suc at + i ≡ at + suc i = omega arith in
+    octet_in s (suc at) width i (omega arith) ∙ ap (λ (n : ℕ). be_at s n 1) further
 
-from_at : (xs : List ℕ) (i : ℕ) → i < length xs → from xs i ≡ pos (get_or xs i 0) ∷ from xs (i + 1)
-from_at xs i h = ap (map pos) (drop-cons xs i 0 h) ∙ rw add-one
-
--- the octets at i, and then those after them
-pub lex-at : (xs ys : List ℕ) (i : ℕ) → i < length xs → i < length ys → lex lt_z (from xs i) (from ys i) ≡ cond (ltb (get_or xs i 0) (get_or ys i 0)) true (cond (ltb (get_or ys i 0) (get_or xs i 0)) false (lex lt_z (from xs (i + 1)) (from ys (i + 1))))
-unfolding lex
-lex-at xs ys i h k = ap₂ (lex lt_z) (from_at xs i h) (from_at ys i k)
-
-pub lex-end : (xs ys : List ℕ) (i : ℕ) → length xs ≤ i → length ys ≤ i → lex lt_z (from xs i) (from ys i) ≡ false
-unfolding lex
-lex-end xs ys i h k =
-    ap₂ (lex lt_z) (ap (map pos) (drop_of_length-le xs {i = i} h)) (ap (map pos) (drop_of_length-le ys {i = i} k))
+-- no slice has an octet of the greatest place, nor of one above it
+pub octet_kept : (s : List ℕ) (at : ℕ) → length s < 2 ^ 63 → be_at s (min at (2 ^ 64 - 1)) 1 ≡ be_at s at 1
+octet_kept s at h = by_place (dec_le at (2 ^ 64 - 1))
+  where
+    by_place : Dec (at ≤ 2 ^ 64 - 1) → be_at s (min at (2 ^ 64 - 1)) 1 ≡ be_at s at 1
+    by_place (yes l) = let same : min at (2 ^ 64 - 1) ≡ at = omega arith in ap (λ (n : ℕ). be_at s n 1) same
+    by_place (no d) = be_at-past s (min at (2 ^ 64 - 1)) 1 (omega arith) ∙ sym (be_at-past s at 1 (omega arith))

@@ -7,13 +7,9 @@
 // `m LENGTH OCTETS`: a message, whose contents are printed (`messages`).
 #![tactic(auto)]
 
-ghost use Rattle.std.specs.Prelude.{◌≡◌, length, IfOk, vec_len};
-
 use print::Output;
-use shelf::Shelf;
 use shelves::Shelves;
-use standard::Input;
-use std::alloc::{AllocError, Global};
+use std::alloc::Global;
 use std::io;
 use std::io::{BufWriter, Write};
 
@@ -25,100 +21,54 @@ mod sections;
 mod shelves;
 mod unpacked;
 
+// Room for the whole input.
+const INPUT: usize = 3000000;
+
+// Room for a row of as many values as any has.
+const PLACES: usize = 524288;
+
 fn main(rt: HostRuntime) -> io::Result<()> {
-    let mut room = input_buffer(rt.alloc())?;
-    match standard::read_all(&rt, &mut room) {
-        Input::Octets(n) => {
-            let mut out = BufWriter::new(rt.alloc(), rt.stdout())?;
-            run(&mut out, &room[..n])?;
-            out.flush()
-        }
-        Input::Failed(why) => Err(why),
-    }
+    let mut room = vec![in rt.alloc(); 0; INPUT]?;
+    let n = standard::read_all(&rt, &mut room)?;
+    let mut out = BufWriter::new(rt.alloc(), rt.stdout())?;
+    run(&mut out, rt.alloc(), &room[..n])?;
+    out.flush()
 }
 
 // One line after the other.
-fn run(out: &mut Output, text: &[u8]) -> io::Result<()> {
-    let mut shelves = Shelves {
-        here: Shelf::empty(),
-        other: Shelf::empty(),
-    };
-    let mut i: usize = 0;
-    while i < text.len() {
-        let end = lines::next(text, i, b'\n');
-        shelves = run_line(out, &text[i..end], shelves)?;
+fn run(out: &mut Output, alloc: Global, text: &[u8]) -> io::Result<()> {
+    let mut shelves = Shelves::empty();
+    for line in text.split_inclusive(|c| *c == b'\n') {
+        let line = line.strip_suffix(b"\n").unwrap_or(line);
+        run_line(out, alloc, line, &mut shelves)?;
         print::text(out, b"\n")?;
-        i = end + 1;
     }
     Ok(())
 }
 
-fn run_line(out: &mut Output, line: &[u8], shelves: Shelves) -> io::Result<Shelves> {
-    if line.len() == 0 {
-        return Ok(shelves);
+fn run_line(out: &mut Output, alloc: Global, line: &[u8], shelves: &mut Shelves) -> io::Result<()> {
+    match line {
+        [] => Ok(()),
+        [b'#', ..] => print::text(out, line),
+        [b'q', ..] => queues::show(out, alloc, line),
+        [b'm', ..] => messages::show(out, alloc, line),
+        [order @ b'a'..=u8::MAX, ..] => shelves.run(out, alloc, line, *order),
+        [b'7', ..] => run_unpacking(out, alloc, line),
+        [section, ..] => {
+            let s = lines::section(alloc, line)?;
+            sections::show(out, lines::digit(*section), &s)
+        }
     }
-    let order = line[0];
-    if order == b'#' {
-        print::text(out, line)?;
-        return Ok(shelves);
-    }
-    if order == b'q' {
-        queues::show(out, line)?;
-        return Ok(shelves);
-    }
-    if order == b'm' {
-        messages::show(out, line)?;
-        return Ok(shelves);
-    }
-    if b'a' <= order {
-        return shelves::run(out, line, order, shelves);
-    }
-    run_case(out, line, order)?;
-    Ok(shelves)
 }
 
-fn run_case(out: &mut Output, line: &[u8], section: u8) -> io::Result<()> {
-    if section == b'7' {
-        return run_unpacking(out, line);
+fn run_unpacking(out: &mut Output, alloc: Global, line: &[u8]) -> io::Result<()> {
+    let behind5 = lines::behind(line, b'/');
+    let section5 = lines::section(alloc, line)?;
+    let section7 = lines::section(alloc, behind5)?;
+    let places = lines::decimal(lines::word(lines::behind(behind5, b'/'), 1));
+    if PLACES < places {
+        return Ok(());
     }
-    let mut room = section_buffer();
-    let n = lines::section_in(line, &mut room);
-    sections::show(out, lines::digit(section), octets::part_after(&room, 0, n))
-}
-
-fn run_unpacking(out: &mut Output, line: &[u8]) -> io::Result<()> {
-    let behind_5 = lines::behind(line, b'/');
-    let mut room_5 = section_buffer();
-    let n5 = lines::section_in(line, &mut room_5);
-    let mut room_7 = section_buffer();
-    let n7 = lines::section_in(behind_5, &mut room_7);
-    let places = lines::decimal(lines::word(lines::behind(lines::behind(behind_5, b'/'), b' ')));
-    let mut row = row_buffer();
-    unpacked::show(
-        out,
-        octets::part_after(&room_5, 0, n5),
-        octets::part_after(&room_7, 0, n7),
-        &mut row,
-        places,
-    )
-}
-
-// Room for the whole input, for a section that is longer than any may be, and for a row of as many values as any has. Each `ensures`
-// gives only the length, which lending the array as a slice needs.
-fn input_buffer(alloc: Global) -> Result<Vec<u8>, AllocError>
-    ensures { IfOk result (λ room. 3000000 ≡ vec_len room) }
-{
-    vec![in alloc; 0; 3000000]
-}
-
-fn section_buffer() -> [u8; 70000]
-    ensures { 70000 ≡ length result }
-{
-    [0; 70000]
-}
-
-fn row_buffer() -> [u32; 524288]
-    ensures { 524288 ≡ length result }
-{
-    [9; 524288]
+    let mut row = vec![in alloc; 9; places]?;
+    unpacked::show(out, &section5, &section7, &mut row)
 }

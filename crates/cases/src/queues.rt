@@ -1,14 +1,13 @@
 // Queues: the listing and the explanation of one, as the two programs print them.
 use crate::lines;
 use crate::print::{self, Output};
+use std::alloc::Global;
 use std::io;
 
-pub(crate) fn show(out: &mut Output, line: &[u8]) -> io::Result<()> {
-    let mut room = crate::section_buffer();
-    let n = lines::section_in(line, &mut room);
-    let queue = octets::part_after(&room, 0, n);
-    list(out, queue)?;
-    explain(out, queue)
+pub(crate) fn show(out: &mut Output, alloc: Global, line: &[u8]) -> io::Result<()> {
+    let queue = lines::section(alloc, line)?;
+    list(out, &queue)?;
+    explain(out, &queue)
 }
 
 fn list(out: &mut Output, queue: &[u8]) -> io::Result<()> {
@@ -28,7 +27,9 @@ fn print_short(out: &mut Output, text: &[u8]) -> io::Result<()> {
     if text.len() <= 4000 {
         return print::text(out, text);
     }
-    print::text(out, octets::part_after(text, 0, 1000))?;
+    let (first, _) = text.split_at(1000);
+    let (_, last) = text.split_at(text.len() - 200);
+    print::text(out, first)?;
     print::text(out, b"\n...\n")?;
-    print::text(out, octets::part_after(text, text.len() - 200, 200))
+    print::text(out, last)
 }

@@ -1,26 +1,18 @@
 // A section: the row of its values or its refusal, and then the parts that a caller is shown.
-ghost use Rattle.std.specs.Prelude.{◌≡◌, length};
-
 use crate::print::{self, Output};
 use std::io;
 
 pub(crate) fn show(out: &mut Output, section: u8, s: &[u8]) -> io::Result<()> {
     show_values(out, section, s)?;
-    if section == 3 {
-        print::part(out, b" list", grid::list(s))?;
+    match section {
+        3 => print::part(out, b" list", grid::list(s)),
+        4 => show_lists(out, s),
+        _ => Ok(()),
     }
-    if section == 4 {
-        show_ranges(out, s)?;
-        let range = product::time_range(s, 0xffff_ffff_ffff_ffff);
-        print::part(out, b" range_at_most", range)?;
-        print::part(out, b" members", product::member_list(s))?;
-        print::part(out, b" coordinates", product::coordinate_list(s))?;
-    }
-    Ok(())
 }
 
 pub(crate) fn show_values(out: &mut Output, section: u8, s: &[u8]) -> io::Result<()> {
-    let mut row = values_buffer();
+    let mut row = [0; 64];
     let refused = values::read_into(section, s, &mut row);
     if refused.number != 0 {
         return print::refusal(out, refused);
@@ -29,37 +21,29 @@ pub(crate) fn show_values(out: &mut Output, section: u8, s: &[u8]) -> io::Result
     show_row(out, &row)
 }
 
-// The count of the values, and they.
+// The count of the values, which is the first of the row, and they.
 fn show_row(out: &mut Output, row: &[i64; 64]) -> io::Result<()> {
-    let count = row[0];
-    let mut i: usize = 0;
-    while i < 64 {
-        if count < i as i64 {
-            return Ok(());
-        }
-        print::signed(out, row[i])?;
-        i += 1;
+    for (value, _) in row.iter().zip(0..=row[0]) {
+        print::signed(out, *value)?;
     }
     Ok(())
 }
 
-// The places that the values of every section fit in.
-fn values_buffer() -> [i64; 64]
-    ensures { 64 ≡ length result }
-{
-    [0; 64]
+fn show_lists(out: &mut Output, s: &[u8]) -> io::Result<()> {
+    show_ranges(out, s)?;
+    print::part(out, b" range_at_most", product::time_range(s, usize::MAX))?;
+    print::part(out, b" members", product::member_list(s))?;
+    print::part(out, b" coordinates", product::coordinate_list(s))
 }
 
 // The time ranges and one more, which is empty.
 fn show_ranges(out: &mut Output, s: &[u8]) -> io::Result<()> {
-    let mut k: usize = 0;
-    while k < 256 {
+    for k in 0..256 {
         let range = product::time_range(s, k);
         print::part(out, b" range", range)?;
-        if range.len() == 0 {
-            return Ok(());
+        if range.is_empty() {
+            break;
         }
-        k += 1;
     }
     Ok(())
 }

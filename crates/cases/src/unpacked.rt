@@ -1,26 +1,15 @@
 // Unpacking: section 7 alone, and the row that sections 5 and 7 unpack into.
-ghost use Rattle.std.specs.Prelude.{◌<◌, ◌^◌};
-
 use crate::print::{self, Output};
 use crate::sections;
 use packing::Unpacked;
 use std::io;
 
-// Unpacks into so many places of a row, where it has as many.
 pub(crate) fn show(
     out: &mut Output,
     section5: &[u8],
     section7: &[u8],
     row: &mut [u32],
-    places: usize,
 ) -> io::Result<()> {
-    if places <= row.len() {
-        show_row(out, section5, section7, &mut row[0..places])?;
-    }
-    Ok(())
-}
-
-fn show_row(out: &mut Output, section5: &[u8], section7: &[u8], row: &mut [u32]) -> io::Result<()> {
     sections::show_values(out, 7, section7)?;
     print::text(out, b" unpacked ")?;
     let answer = packing::unpack(section5, section7, row);
@@ -45,27 +34,16 @@ fn show_answer(out: &mut Output, answer: Unpacked) -> io::Result<()> {
 }
 
 fn show_numbers(out: &mut Output, row: &[u32]) -> io::Result<()> {
-    let mut i = 0;
-    while i < row.len() {
-        print::number(out, wide(row[i]))?;
-        i += 1;
+    for number in row {
+        print::number(out, *number)?;
     }
     Ok(())
 }
 
-fn wide(x: u32) -> u64
-    ensures { result < 2 ^ 32 }
-{
-    x as u64
-}
-
 // A number that a change of any place changes.
-fn digest(row: &[u32]) -> u64 {
-    let mut sum: u64 = 0;
-    let mut i = 0;
-    while i < row.len() {
-        sum = (sum * 31 + wide(row[i])) % 0x1_0000_0000;
-        i += 1;
-    }
-    sum
+fn digest(row: &[u32]) -> u32 {
+    row.iter().fold(
+        0u32,
+        |sum, number| sum.wrapping_mul(31).wrapping_add(*number),
+    )
 }

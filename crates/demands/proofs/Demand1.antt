@@ -40,7 +40,7 @@ pub use Rattle.packing.proofs.RefusalNumbers.{packing-refuses, data-refuses, unp
 pub use Rattle.field.proofs.RefusalNumbers.{field-refuses}
 pub use Rattle.message.proofs.RefusalNumbers.{message-refuses}
 pub use Rattle.filing.proofs.RefusalNumbers.{filing-refuses}
-pub use Rattle.queue.proofs.RefusalNumbers.{record-refuses, queue-refuses, queue-number}
+pub use Rattle.queue.proofs.RefusalNumbers.{record-refuses, queue-refuses, check-refuses, queue-number}
 pub use Rattle.values.proofs.RecordRead.{read-into-refuses}
 -- Of the entries for C: each answers 0, or one number for a refusal that a table lists, and no two refusals have the same;
 pub use Rattle.demands.proofs.NumbersForC.{unpack-answers, read-answers, part-answers, list-answers, message-answers, empty-answers, join-answers, slot-answers, field-answers, queue-answers, one-refusal}
@@ -64,42 +64,40 @@ use Rattle.packing.specs.Unpacking.{told_unpacked, row_by, row_after, Unpacks}
 use Rattle.packing.specs.declared.Unpacked.TheVariants.{Refused as refused_unpacking}
 use Rattle.shelf.specs.Shelves.{put_of}
 use Rattle.shelf.specs.declared.Shelf.{Shelf}
+use Rattle.std.specs.Prelude.{Option, Err}
 use Rattle.filing.specs.Filing.{Filing, refused_filing, accepted, filing_of, kept_if, filed_by, filed_of}
-use Rattle.filing.specs.declared.Issue.{Issue}
-use Rattle.filing.specs.declared.Answer.TheVariants.{Refused}
 use Rattle.filing.specs.declared.Filed.{Filed}
 use Rattle.cutting.specs.Cuts.{cut_of}
 use Rattle.queue.specs.Queues.{Sent, record_filing, record_filed, record_step, records_filed, from_start, queue_refusal, accepted_queue, refused_queue, queue_filed}
-use Rattle.queue.specs.declared.QueueAnswer.TheVariants.{Refused as refused_all}
 
 -- "A refusal changes no shelf ..": filing a field, by value and lent; a record of a queue; a queue.
 
-not-refused : (t : Bool) (x : Refusal) → kept_if t ≡ Refused x → ⊥
+not-refused : (t : Bool) (x : Refusal) → kept_if t ≡ Err x → ⊥
 not-refused true x e = let z : ◌≡◌ {A = ℕ} 0 1 = cc in omega arith
 not-refused false x e = let z : ◌≡◌ {A = ℕ} 0 1 = cc in omega arith
 
-shelf-stays : (shelf : Shelf) (slot : ℕ) (f : Filing) (x : Refusal) → (filed_by shelf slot f).answer ≡ Refused x → (filed_by shelf slot f).shelf ≡ shelf
+shelf-stays : (shelf : Shelf) (slot : ℕ) (f : Filing) (x : Refusal) → (filed_by shelf slot f).answer ≡ Err x → (filed_by shelf slot f).shelf ≡ shelf
 unfolding filed_by
 shelf-stays shelf slot (refused_filing number section place) x e = refl
 shelf-stays shelf slot (accepted card) x e = absurd (not-refused (put_of shelf slot card).changed x e)
 
-pub filing-keeps-shelf : (shelf : Shelf) (slot : ℕ) (issue : Issue) (s1 s3 s4 s5 s7 : List ℕ) (x : Refusal) → (filed_of shelf slot issue s1 s3 s4 s5 s7).answer ≡ Refused x → (filed_of shelf slot issue s1 s3 s4 s5 s7).shelf ≡ shelf
+pub filing-keeps-shelf : (shelf : Shelf) (slot : ℕ) (issue : Option ℕ) (s1 s3 s4 s5 s7 : List ℕ) (x : Refusal) → (filed_of shelf slot issue s1 s3 s4 s5 s7).answer ≡ Err x → (filed_of shelf slot issue s1 s3 s4 s5 s7).shelf ≡ shelf
 unfolding filed_of
 filing-keeps-shelf shelf slot issue s1 s3 s4 s5 s7 x e = shelf-stays shelf slot (filing_of slot issue s1 s3 s4 s5 s7) x e
 
-pub filing-keeps-lent-shelf : (shelf later : Shelf) (slot : ℕ) (issue : Issue) (s1 s3 s4 s5 s7 : List ℕ) (x : Refusal) → record { shelf = later; answer = Refused x } ≡ filed_of shelf slot issue s1 s3 s4 s5 s7 → later ≡ shelf
+pub filing-keeps-lent-shelf : (shelf later : Shelf) (slot : ℕ) (issue : Option ℕ) (s1 s3 s4 s5 s7 : List ℕ) (x : Refusal) → record { shelf = later; answer = Err x } ≡ filed_of shelf slot issue s1 s3 s4 s5 s7 → later ≡ shelf
 filing-keeps-lent-shelf shelf later slot issue s1 s3 s4 s5 s7 x e =
     ap (λ (y : Filed). y.shelf) e ∙ filing-keeps-shelf shelf slot issue s1 s3 s4 s5 s7 x (sym (ap (λ (y : Filed). y.answer) e))
 
-pub record-keeps-shelf : (shelf : Shelf) (r : Sent) (x : Refusal) → (record_filed shelf r).answer ≡ Refused x → (record_filed shelf r).shelf ≡ shelf
+pub record-keeps-shelf : (shelf : Shelf) (r : Sent) (x : Refusal) → (record_filed shelf r).answer ≡ Err x → (record_filed shelf r).shelf ≡ shelf
 unfolding record_filed
 record-keeps-shelf shelf r x e = shelf-stays shelf r.slot (record_filing r) x e
 
-pub queue-keeps-shelf : (shelf : Shelf) (q : List ℕ) (x : Refusal) → (queue_filed shelf q).answer ≡ refused_all x → (queue_filed shelf q).shelf ≡ shelf
+pub queue-keeps-shelf : (shelf : Shelf) (q : List ℕ) (x : Refusal) → (queue_filed shelf q).answer ≡ Err x → (queue_filed shelf q).shelf ≡ shelf
 unfolding queue_filed
 queue-keeps-shelf shelf q x e = by-refusal (eqb (queue_refusal q) 0) e
   where
-    by-refusal : (t : Bool) → (cond t (accepted_queue (records_filed (from_start shelf) (cut_of record_step q).items)) (refused_queue shelf (queue_refusal q))).answer ≡ refused_all x → (cond t (accepted_queue (records_filed (from_start shelf) (cut_of record_step q).items)) (refused_queue shelf (queue_refusal q))).shelf ≡ shelf
+    by-refusal : (t : Bool) → (cond t (accepted_queue (records_filed (from_start shelf) (cut_of record_step q).items)) (refused_queue shelf (queue_refusal q))).answer ≡ Err x → (cond t (accepted_queue (records_filed (from_start shelf) (cut_of record_step q).items)) (refused_queue shelf (queue_refusal q))).shelf ≡ shelf
     by-refusal true e = let z : ◌≡◌ {A = ℕ} 0 1 = cc in absurd (omega arith)
     by-refusal false e = refl
 

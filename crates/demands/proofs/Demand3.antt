@@ -32,38 +32,34 @@ use Rattle.card.specs.Key.{time_of, SameTime, key_of, less_card}
 use Rattle.card.proofs.Strict.{asym, either_less}
 use Rattle.card.proofs.Lex.{lex-front}
 use Rattle.card.proofs.Cards.{key-decides, number-decides, key-at, card-strict}
-use Rattle.shelf.specs.Shelves.{less_slot, holding, empty_shelf, slot_at, put_of, join_shelf}
+use Rattle.shelf.specs.Shelves.{Slot, less_slot, blank, holding, empty_shelf, slot_at, put_of, join_shelf}
 use Rattle.shelf.specs.History.{Keeps}
-use Rattle.shelf.specs.declared.Slot.{Slot}
 use Rattle.shelf.specs.declared.Shelf.{Shelf}
 use Rattle.shelf.specs.declared.PutDone.{PutDone}
-use Rattle.shelf.proofs.Slots.{empty-below, slot_same}
+use Rattle.shelf.proofs.Slots.{blank-below, held-by-cards as by-cards}
 use Rattle.shelf.proofs.Laws.{shelf-join, unchanged-same, changed-differs}
 use Rattle.shelf_octets.specs.ShelfOctets.{shelf_in}
 use Rattle.shelf_octets.proofs.Laws.{tidy-in}
+use Rattle.std.specs.Prelude.{Option, Some, None, Result, Ok}
 use Rattle.filing.specs.Filing.{Filing, refused_filing, accepted, issue_of, card_of, card_at, foreign_calendar, filing_of, filed_by, filed_of, Said}
 use Rattle.filing.specs.Accepted.{Gregorian, FollowsFiling, AcceptedFiling}
-use Rattle.filing.specs.declared.Issue.{Issue}
-use Rattle.filing.specs.declared.Issue.TheVariants.{NotNamed, Named}
 use Rattle.filing.proofs.CardOctets.{card-octets}
 use Rattle.filing.proofs.FiledExactlyWhen.{filed-exactly-when, filed-card, answered-exactly-when}
 use Rattle.filing.proofs.SaidOfTheSlots.{slot-there, said}
 use Rattle.filing.specs.declared.Filed.{Filed}
 use Rattle.cutting.specs.Cuts.{cut_of}
 use Rattle.cutting.specs.Sections.{stretch, Sized}
-use Rattle.queue.specs.Queues.{Sent, body_filing, record_filing, record_filed, record_step, records_filed, from_start, queue_refusal, refused_queue, accepted_queue, queue_filed}
+use Rattle.queue.specs.Queues.{Sent, body_filing, record_filing, record_filed, record_step, records_filed, from_start, queue_refusal, checked, refused_queue, accepted_queue, queue_filed}
 use Rattle.queue.specs.Spelled.{spelled_all, AllSpellable, FollowsQueue, back_to_back, FiveSections}
 use Rattle.queue.specs.Counting.{Reports}
 use Rattle.queue.specs.Bodies.{body_of}
-use Rattle.queue.specs.declared.Body.{Body}
-use Rattle.queue.specs.declared.Body.TheVariants.{Five, NotFive}
+use Rattle.queue.specs.declared.Ends.{Ends}
 use Rattle.queue.specs.declared.Counts.{Counts}
-use Rattle.queue.specs.declared.QueueAnswer.{QueueAnswer}
-use Rattle.queue.specs.declared.QueueAnswer.TheVariants.{Filed as filed_all}
+use Rattle.layout.specs.declared.Refusal.{Refusal}
 use Rattle.queue.specs.declared.QueueFiled.{QueueFiled}
 use Rattle.queue.specs.History.{FiledField, History, start, put, file, queue, join, shelf_of, accepted_at, accepted_in, accepted_of}
 use Rattle.queue.proofs.Histories.{tidy, greatest-card as greatest, any_order as in-any-order}
-use Rattle.queue.proofs.Spelled.{cut-spelled, spelled-again, all-spellable, accepted-exactly-when, filed-spelled}
+use Rattle.queue.proofs.Spelled.{cut-spelled, spelled-again, all-spellable, accepted-exactly-when, checked-exactly-when, filed-spelled}
 use Rattle.queue.proofs.FiveSections.{five-filed, five-or-20, record-accepted as accepted-record}
 use Rattle.queue.proofs.Counting.{queue-counts}
 use Rattle.queue.proofs.QueueIsJoining.{queue-is-joining as is-joining, queue-again as once_more}
@@ -102,24 +98,24 @@ pub made-by-record : (h : History) (x : Sent) (r : Filed) → r ≡ record_filed
 unfolding shelf_of accepted_at accepted_of record_filed record_filing body_filing filed_of filed_by
 made-by-record h x r e = by-body (body_of x.body) refl
   where
-    filing-by : Body → Filing
+    filing-by : Option Ends → Filing
     filing-by b = body_filing x.slot x.issue x.body b
 
-    shelf-by : (b : Body) → body_of x.body ≡ b → r.shelf ≡ (filed_by (shelf_of h) x.slot (filing-by b)).shelf
-    shelf-by b f = ap (λ (y : Filed). y.shelf) e ∙ ap (λ (b : Body). (filed_by (shelf_of h) x.slot (filing-by b)).shelf) f
+    shelf-by : (b : Option Ends) → body_of x.body ≡ b → r.shelf ≡ (filed_by (shelf_of h) x.slot (filing-by b)).shelf
+    shelf-by b f = ap (λ (y : Filed). y.shelf) e ∙ ap (λ (b : Option Ends). (filed_by (shelf_of h) x.slot (filing-by b)).shelf) f
 
-    accepted-by : (b : Body) → body_of x.body ≡ b → (n : ℕ) → accepted_at n h ++ accepted_of n x.slot (filing-by b) ≡ accepted_at n h ++ accepted_of n x.slot (record_filing x)
-    accepted-by b f n = ap (λ (b : Body). accepted_at n h ++ accepted_of n x.slot (filing-by b)) (sym f)
+    accepted-by : (b : Option Ends) → body_of x.body ≡ b → (n : ℕ) → accepted_at n h ++ accepted_of n x.slot (filing-by b) ≡ accepted_at n h ++ accepted_of n x.slot (record_filing x)
+    accepted-by b f n = ap (λ (b : Option Ends). accepted_at n h ++ accepted_of n x.slot (filing-by b)) (sym f)
 
-    by-body : (b : Body) → body_of x.body ≡ b → (g : History) × (r.shelf ≡ shelf_of g) × ((n : ℕ) → accepted_at n g ≡ accepted_at n h ++ accepted_of n x.slot (record_filing x))
-    by-body NotFive f = (h, shelf-by NotFive f, λ n. sym (append-nil (accepted_at n h)) ∙ accepted-by NotFive f n)
-    by-body (Five ends) f =
+    by-body : (b : Option Ends) → body_of x.body ≡ b → (g : History) × (r.shelf ≡ shelf_of g) × ((n : ℕ) → accepted_at n g ≡ accepted_at n h ++ accepted_of n x.slot (record_filing x))
+    by-body None f = (h, shelf-by None f, λ n. sym (append-nil (accepted_at n h)) ∙ accepted-by None f n)
+    by-body (Some ends) f =
         let s = x.body in (
           file x.slot
               (record { issue = x.issue; s1 = stretch s 0 ends.one; s3 = stretch s ends.one ends.three; s4 = stretch s ends.three ends.four; s5 = stretch s ends.four ends.five; s7 = stretch s ends.five (length s) })
               h,
-          shelf-by (Five ends) f,
-          accepted-by (Five ends) f,
+          shelf-by (Some ends) f,
+          accepted-by (Some ends) f,
         )
 
 -- ---- "ever accepted": a field is filed exactly when there is such a slot, its five sections follow, and the calendar is absent or 0, and then
@@ -132,11 +128,11 @@ pub filing-card : (slot : ℕ) (x : FiledField) (card : Card) → filing_of slot
 filing-card slot x = filed-card slot x.issue x.s1 x.s3 x.s4 x.s5 x.s7
 
 -- "A caller that names no issue gets issue 0"
-pub issue-not-named : issue_of NotNamed ≡ 0
+pub issue-not-named : issue_of None ≡ 0
 issue-not-named = refl
 
 -- and one that names an issue gets that one
-pub issue-named : (n : ℕ) → issue_of (Named n) ≡ n
+pub issue-named : (n : ℕ) → issue_of (Some n) ≡ n
 issue-named n = refl
 
 -- of what the entries answer: kept or passed, exactly then
@@ -148,6 +144,10 @@ filing-answers s slot x = answered-exactly-when slot x.issue x.s1 x.s3 x.s4 x.s5
 pub queue-accepted : (q : List ℕ) → AllOctets q → (queue_refusal q ≡ 0) ↔ FollowsQueue q
 queue-accepted = accepted-exactly-when
 
+-- and that is what its check answers
+pub queue-checked : (q : List ℕ) → AllOctets q → (checked q ≡ Ok (tt {0})) ↔ FollowsQueue q
+queue-checked = checked-exactly-when
+
 pub queue-cut : (rs : List Sent) → AllSpellable rs → cut_of record_step (spelled_all rs) ≡ record { items = rs; whole = true }
 queue-cut = cut-spelled
 
@@ -158,7 +158,7 @@ pub queue-of-records : (s : Shelf) (rs : List Sent) → AllSpellable rs → leng
 queue-of-records = filed-spelled
 
 -- five sections back to back are a record's body and filed as these; a body that is not exactly five is refused with 20
-pub record-of-five : (slot : ℕ) (issue : Issue) (s1 s3 s4 s5 s7 : List ℕ) → Sized s1 → Sized s3 → Sized s4 → Sized s5 → Sized s7
+pub record-of-five : (slot : ℕ) (issue : Option ℕ) (s1 s3 s4 s5 s7 : List ℕ) → Sized s1 → Sized s3 → Sized s4 → Sized s5 → Sized s7
     → record_filing (record { slot = slot; issue = issue; body = back_to_back s1 s3 s4 s5 s7 }) ≡ filing_of slot issue s1 s3 s4 s5 s7
 record-of-five slot issue s1 s3 s4 s5 s7 z1 z3 z4 z5 z7 = five-filed s1 s3 s4 s5 s7 z1 z3 z4 z5 z7 slot issue
 
@@ -237,13 +237,13 @@ less-total = either_less card-strict
 pub one-card : (a b : Card) → less_card a b ≡ false → less_card b a ≡ false → a ≡ b
 one-card = card-strict.total
 
--- ---- "a held card beats an empty slot", whatever stands in it; and of two held slots the cards decide
+-- ---- "a held card beats an empty slot"; and of two held slots the cards decide
 
-pub held-beats-empty : (x : Slot) (card : Card) → x.held ≡ false → less_slot x (holding card) ≡ true
-held-beats-empty = empty-below
+pub held-beats-empty : (x : Slot) (card : Card) → x ≡ blank → less_slot x (holding card) ≡ true
+held-beats-empty x card e = ap (λ (y : Slot). less_slot y (holding card)) e ∙ blank-below card
 
 pub held-by-cards : (a b : Card) → less_slot (holding a) (holding b) ≡ less_card a b
-held-by-cards a b = slot_same (holding a) (holding b) refl
+held-by-cards = by-cards
 
 -- ---- "each slot holds the greatest card ever accepted for it, here or in a shelf joined in directly or through others, or is empty"
 
@@ -300,9 +300,9 @@ putting-says s slot card r long e =
     subst⁻¹ (λ (y : PutDone). (y.changed ≡ true → slot_at y.shelf slot ≢ slot_at s slot) × (y.changed ≡ false → y.shelf ≡ s)) e
     (changed-differs s slot card long, unchanged-same s slot card long)
 
-pub queue-reports : (s : Shelf) (q : List ℕ) (r : QueueFiled) (n : Counts) → r ≡ queue_filed s q → r.answer ≡ filed_all n → Reports s (cut_of record_step q).items n
+pub queue-reports : (s : Shelf) (q : List ℕ) (r : QueueFiled) (n : Counts) → r ≡ queue_filed s q → r.answer ≡ Ok n → Reports s (cut_of record_step q).items n
 queue-reports s q r n e f =
-    queue-counts q s (record { shelf = r.shelf; counts = n }) (sym e ∙ ap (λ (a : QueueAnswer). record { shelf = r.shelf; answer = a }) f)
+    queue-counts q s (record { shelf = r.shelf; counts = n }) (sym e ∙ ap (λ (a : Result Counts Refusal). record { shelf = r.shelf; answer = a }) f)
 
 -- ---- a refused field, record or queue counts as never sent
 

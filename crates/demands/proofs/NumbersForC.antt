@@ -24,13 +24,13 @@ use Rattle.message.specs.Refused.{message_table}
 use Rattle.message.proofs.RefusalNumbers.{message-refuses}
 use Rattle.shelf.specs.declared.Shelf.{Shelf}
 use Rattle.shelf_octets.specs.ShelfOctets.{shelf_in}
-use Rattle.filing.specs.declared.Answer.{Answer}
-use Rattle.filing.specs.declared.Answer.TheVariants.{Kept, Passed, Refused as refused_field}
+use Rattle.filing.specs.declared.Change.{Change}
+use Rattle.filing.specs.declared.Change.TheVariants.{Kept, Passed}
+use Rattle.std.specs.Prelude.{Result, Ok, Err}
 use Rattle.filing.specs.Filing.{filed_of, issue_from}
 use Rattle.filing.specs.Refused.{filing_table}
 use Rattle.filing.proofs.RefusalNumbers.{filing-refuses}
-use Rattle.queue.specs.declared.QueueAnswer.{QueueAnswer}
-use Rattle.queue.specs.declared.QueueAnswer.TheVariants.{Filed as filed_all, Refused as refused_all}
+use Rattle.queue.specs.declared.Counts.{Counts}
 use Rattle.queue.specs.Queues.{queue_filed}
 use Rattle.queue.specs.Refused.{queue_table}
 use Rattle.queue.proofs.RefusalNumbers.{queue-refuses}
@@ -134,16 +134,16 @@ field-answers s slot stored s1 s3 s4 s5 s7 places =
     either (AnswersBy file_table) (ltb 4294967296 stored) (plainly file_table 19 refl refl)
     (by made.shelf made.answer (λ x e. wider file_table filing_table x refl (filing-refuses (shelf_in s) slot (issue_from stored) s1 s3 s4 s5 s7 x e)))
   where
-    by : (after : Shelf) (a : Answer) → ((x : Refusal) → a ≡ refused_field x → Listed file_table x) → Answers file_table (field_kept s places after a).answer
-    by after (refused_field x) f = inr (x, refl, f x refl)
-    by after Kept f = keep-answers file_table s places after (1 ∷ []) refl
-    by after Passed f = keep-answers file_table s places after (0 ∷ []) refl
+    by : (after : Shelf) (a : Result Change Refusal) → ((x : Refusal) → a ≡ Err x → Listed file_table x) → Answers file_table (field_kept s places after a).answer
+    by after (Err x) f = inr (x, refl, f x refl)
+    by after (Ok Kept) f = keep-answers file_table s places after (1 ∷ []) refl
+    by after (Ok Passed) f = keep-answers file_table s places after (0 ∷ []) refl
 
 pub queue-answers : (s q places : List ℕ) → Answers file_queue_table (filed_queue s q places).answer
 unfolding filed_queue queue_kept
 queue-answers s q places =
     by (queue_filed (shelf_in s) q).shelf (queue_filed (shelf_in s) q).answer (λ x e. wider file_queue_table queue_table x refl (queue-refuses (shelf_in s) q x e))
   where
-    by : (after : Shelf) (a : QueueAnswer) → ((x : Refusal) → a ≡ refused_all x → Listed file_queue_table x) → Answers file_queue_table (queue_kept s places after a).answer
-    by after (refused_all x) f = inr (x, refl, f x refl)
-    by after (filed_all n) f = keep-answers file_queue_table s places after (n.kept ∷ n.passed ∷ n.refused ∷ []) refl
+    by : (after : Shelf) (a : Result Counts Refusal) → ((x : Refusal) → a ≡ Err x → Listed file_queue_table x) → Answers file_queue_table (queue_kept s places after a).answer
+    by after (Err x) f = inr (x, refl, f x refl)
+    by after (Ok n) f = keep-answers file_queue_table s places after (n.kept ∷ n.passed ∷ n.refused ∷ []) refl

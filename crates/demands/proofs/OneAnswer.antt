@@ -30,7 +30,9 @@ use Rattle.field.specs.Field.{told, field_outcome}
 use Rattle.field.specs.declared.Answer.{Answer as FieldAnswer}
 use Rattle.field.proofs.AnswersDetermined.{determined as determined-field}
 use Rattle.shelf.specs.declared.Shelf.{Shelf}
-use Rattle.filing.specs.declared.Answer.{Answer}
+use Rattle.std.specs.Prelude.{Result}
+use Rattle.layout.specs.declared.Refusal.{Refusal}
+use Rattle.filing.specs.declared.Change.{Change}
 use Rattle.filing.specs.declared.Filed.{Filed}
 -- `text` and `report`: the index that is answered and the lent buffer; `values::read_into` and every entry for C: the answer and the lent
 -- buffers, one or a pair
@@ -79,5 +81,5 @@ one_time vs a b p q = same_time a b (p ∙ sym q)
 -- ---- what is lent and changed
 
 -- `filing::file`: the answer and the lent shelf
-pub one-filing : (x : Filed) (a b : Answer) (after later : Shelf) → record { shelf = after; answer = a } ≡ x → record { shelf = later; answer = b } ≡ x → (a ≡ b) × (after ≡ later)
+pub one-filing : (x : Filed) (a b : Result Change Refusal) (after later : Shelf) → record { shelf = after; answer = a } ≡ x → record { shelf = later; answer = b } ≡ x → (a ≡ b) × (after ≡ later)
 one-filing x a b after later p q = let e = p ∙ sym q in (ap (λ (x : Filed). x.answer) e, ap (λ (x : Filed). x.shelf) e)

@@ -8,6 +8,7 @@ use mathlib.Core.Path.{◌≡◌, refl, sym, ap, subst⁻¹, ◌∙◌}
 use mathlib.Core.Bool.{Bool, true, false, cond}
 use mathlib.Core.List.{List, [], ◌∷◌}
 use mathlib.Core.Logic.{◌≢◌}
+use Rattle.std.proofs.Common.{Some, None, IfSome}
 use lib.Dec.{eqb}
 use lib.IntN.{ℤ, pos, negsuc, nat_abs, ◌*ℤ◌}
 use lib.ListN.{drop, replicate}
@@ -19,12 +20,11 @@ use Rattle.identification.specs.Section1.{real_year_at}
 use Rattle.identification.specs.declared.Template.{Template}
 use Rattle.identification.specs.declared.Template.TheVariants.{None as no_template, Calendar, Offset, CalendarAndOffset}
 use Rattle.shelf.specs.declared.Shelf.{Shelf}
-use Rattle.shelf.specs.Shelves.{slot_at, empty_shelf, join_shelf}
+use Rattle.shelf.specs.Shelves.{Slot, slot_at, empty_shelf, join_shelf}
 use Rattle.shelf.specs.History.{Keeps}
 use Rattle.shelf_octets.specs.ShelfOctets.{shelf_in, as_octets, join_octets, Held, Stored}
 use Rattle.shelf_octets.proofs.Laws as laws
-use Rattle.filing.specs.declared.Issue.{Issue}
-use Rattle.filing.specs.declared.Issue.TheVariants.{NotNamed, Named}
+use Rattle.std.specs.Prelude.{Option, Some, None}
 use Rattle.filing.specs.Filing.{Filing, refused_filing, accepted, issue_of, filing_of, filed_by, filed_of, issue_from}
 use Rattle.filing.proofs.FiledExactlyWhen.{filed-exactly-when, filed-card}
 use Rattle.cutting.specs.Cuts.{cut_of}
@@ -32,9 +32,7 @@ use Rattle.cutting.specs.Sections.{stretch}
 use Rattle.cutting.proofs.Taken.{taken}
 use Rattle.queue.specs.declared.Head.{Head}
 use Rattle.queue.specs.declared.Progress.{Progress}
-use Rattle.queue.specs.declared.Body.{Body}
-use Rattle.queue.specs.declared.Body.TheVariants.{Five, NotFive}
-use Rattle.queue.specs.declared.Record.TheVariants.{Whole}
+use Rattle.queue.specs.declared.Ends.{Ends}
 use Rattle.queue.specs.Records.{record_of}
 use Rattle.queue.specs.Bodies.{body_of}
 use Rattle.queue.specs.Queues.{Sent, record_in, body_filing, record_filing, record_filed, record_step, one_more, records_filed, from_start, queue_refusal, refused_queue, accepted_queue, queue_filed}
@@ -69,7 +67,7 @@ abbrev HeldIf : Filing → Type 0
 HeldIf (refused_filing number section place) = Unit {0}
 HeldIf (accepted card) = Held card
 
-filing-held : (slot : ℕ) (issue : Issue) (s1 s3 s4 s5 s7 : List ℕ) → AllOctets s1 → issue_of issue < 2 ^ 32 → HeldIf (filing_of slot issue s1 s3 s4 s5 s7)
+filing-held : (slot : ℕ) (issue : Option ℕ) (s1 s3 s4 s5 s7 : List ℕ) → AllOctets s1 → issue_of issue < 2 ^ 32 → HeldIf (filing_of slot issue s1 s3 s4 s5 s7)
 filing-held slot issue s1 s3 s4 s5 s7 a h = by-filing (filing_of slot issue s1 s3 s4 s5 s7) refl
   where
     by-filing : (f : Filing) → filing_of slot issue s1 s3 s4 s5 s7 ≡ f → HeldIf f
@@ -85,7 +83,7 @@ filed-stored s slot (accepted card) t h = laws.stored-put s slot card t h
 
 -- ---- the shelves that filing a field and filing a queue make
 
-stored-filed : (s : Shelf) (slot : ℕ) (issue : Issue) (s1 s3 s4 s5 s7 : List ℕ) → Stored s → AllOctets s1 → issue_of issue < 2 ^ 32
+stored-filed : (s : Shelf) (slot : ℕ) (issue : Option ℕ) (s1 s3 s4 s5 s7 : List ℕ) → Stored s → AllOctets s1 → issue_of issue < 2 ^ 32
     → Stored (filed_of s slot issue s1 s3 s4 s5 s7).shelf
 unfolding filed_of
 stored-filed s slot issue s1 s3 s4 s5 s7 t a h = filed-stored s slot (filing_of slot issue s1 s3 s4 s5 s7) t (filing-held slot issue s1 s3 s4 s5 s7 a h)
@@ -102,15 +100,15 @@ AllTold (r ∷ rs) = Told r × AllTold rs
 pub issue-small : (stored : ℕ) → stored ≤ 4294967296 → issue_of (issue_from stored) < 2 ^ 32
 issue-small stored h = by_zero (eqb stored 0)
   where
-    by_zero : (t : Bool) → issue_of (cond t NotNamed (Named (stored - 1))) < 2 ^ 32
+    by_zero : (t : Bool) → issue_of (cond t None (Some (stored - 1))) < 2 ^ 32
     by_zero true = omega arith
     by_zero false = omega arith
 
-record-told : (s : List ℕ) (h : Head) → AllOctets s → record_of s ≡ Whole h → Told (record_in s h)
+record-told : (s : List ℕ) (h : Head) → AllOctets s → record_of s ≡ Some h → Told (record_in s h)
 record-told s h a e =
     let x = stands s h e in
     record {
-      issue = subst⁻¹ (λ (i : Issue). issue_of i < 2 ^ 32) x.named (issue-small x.stored (taken _ _ _ x.second).small);
+      issue = subst⁻¹ (λ (i : Option ℕ). issue_of i < 2 ^ 32) x.named (issue-small x.stored (taken _ _ x.second).small);
       body = take-octets (h.end - h.start) (drop h.start s) (drop-octets h.start s a);
     }
 
@@ -121,9 +119,9 @@ record-held : (r : Sent) → Told r → HeldIf (record_filing r)
 unfolding record_filing body_filing
 record-held r t = by-body (body_of r.body)
   where
-    by-body : (b : Body) → HeldIf (body_filing r.slot r.issue r.body b)
-    by-body NotFive = tt
-    by-body (Five ends) = filing-held r.slot r.issue (stretch r.body 0 ends.one) _ _ _ _ (take-octets (ends.one - 0) r.body t.body) t.issue
+    by-body : (b : Option Ends) → HeldIf (body_filing r.slot r.issue r.body b)
+    by-body None = tt
+    by-body (Some ends) = filing-held r.slot r.issue (stretch r.body 0 ends.one) _ _ _ _ (take-octets (ends.one - 0) r.body t.body) t.issue
 
 records-stored : (rs : List Sent) (p : Progress) → AllTold rs → Stored p.shelf → Stored (records_filed p rs).shelf
 unfolding records_filed record_filed
@@ -177,11 +175,11 @@ none-held-leaves o d = record { given = tt; says = laws.none-held o d }
 given-cards : (s : Shelf) → Stored s → (n : ℕ) → n ≤ 64 → Given (cards_put n s)
 unfolding Given cards_put
 given-cards s t zero h = tt
-given-cards s t (suc n) h = by-held (slot_at s n).held (given-cards s t n (omega arith))
+given-cards s t (suc n) h = by-held (slot_at s n) (t.cards n (omega arith)) (given-cards s t n (omega arith))
   where
-    by-held : (b : Bool) → Given (cards_put n s) → Given (put_if b n (slot_at s n) (cards_put n s))
-    by-held true g = (t.cards n (omega arith), g)
-    by-held false g = g
+    by-held : (x : Slot) → IfSome x Held → Given (cards_put n s) → Given (put_if n x (cards_put n s))
+    by-held None c g = g
+    by-held (Some card) c g = (c, g)
 
 pub any-octets-leave : (o : List ℕ) → AllOctets o → (h : History) × Leaves h o
 any-octets-leave o a = (

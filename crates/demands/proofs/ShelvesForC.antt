@@ -20,8 +20,8 @@ use Rattle.cutting.specs.Cuts.{cut_of}
 use Rattle.queue.specs.Queues.{record_step, queue_filed}
 use Rattle.queue.specs.Counting.{Reports}
 use Rattle.queue.specs.declared.Counts.{Counts}
-use Rattle.queue.specs.declared.QueueAnswer.{QueueAnswer}
-use Rattle.queue.specs.declared.QueueAnswer.TheVariants.{Filed as filed_all, Refused as refused_all}
+use Rattle.std.specs.Prelude.{Result, Ok, Err}
+use Rattle.layout.specs.declared.Refusal.{Refusal}
 use Rattle.queue.proofs.Counting.{queue-counts}
 use Rattle.queue.specs.History.{History, start, file, queue, join, shelf_of}
 use Rattle.lent.specs.Lent.{Done, done, done_both, over, with_count, if_room}
@@ -88,8 +88,8 @@ c-queue-told s q places s' places' e =
     let x = queue-left s q places (sym (ap (λ (x : Done ℕ (List ℕ × List ℕ)). x.answer) e)) in
     by (queue_filed (shelf_in s) q).answer refl (subst⁻¹ (λ (l : List ℕ). QueueTold (queue_filed (shelf_in s) q).answer places l) (ap (λ (x : Done ℕ (List ℕ × List ℕ)). x.lent.1) e) x.2.1)
   where
-    by : (a : QueueAnswer) → (queue_filed (shelf_in s) q).answer ≡ a → QueueTold a places places'
+    by : (a : Result Counts Refusal) → (queue_filed (shelf_in s) q).answer ≡ a → QueueTold a places places'
         → (n : Counts) × Reports (shelf_in s) (cut_of record_step q).items n × (places' ≡ over places (n.kept ∷ n.passed ∷ n.refused ∷ []))
-    by (filed_all n) f t =
-        (n, queue-counts q (shelf_in s) (record { shelf = (queue_filed (shelf_in s) q).shelf; counts = n }) (ap (λ (a : QueueAnswer). record { shelf = (queue_filed (shelf_in s) q).shelf; answer = a }) f), t)
-    by (refused_all x) f t = absurd t
+    by (Ok n) f t =
+        (n, queue-counts q (shelf_in s) (record { shelf = (queue_filed (shelf_in s) q).shelf; counts = n }) (ap (λ (a : Result Counts Refusal). record { shelf = (queue_filed (shelf_in s) q).shelf; answer = a }) f), t)
+    by (Err x) f t = absurd t

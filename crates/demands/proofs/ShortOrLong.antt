@@ -58,8 +58,7 @@ use Rattle.packing.proofs.StarredPacking.{packing-agrees}
 use Rattle.field.specs.Field.{FieldOutcome, refused_field, onward, packed_outcome, field_outcome}
 use Rattle.shelf.specs.declared.Shelf.{Shelf}
 use Rattle.filing.specs.Filing.{Filing, of_field, filing_of, filed_by, issue_from, filed_of}
-use Rattle.filing.specs.declared.Issue.{Issue}
-use Rattle.filing.specs.declared.Answer.TheVariants.{Refused}
+use Rattle.std.specs.Prelude.{Option, Err}
 use Rattle.queue.specs.Queues.{Sent, record_filing, record_filed}
 use Rattle.queue.specs.Spelled.{FiveSections}
 use Rattle.queue.proofs.FiveSections.{five-filed}
@@ -154,21 +153,21 @@ module _ (number section place : ℕ) where
       onto (one.outcome₁ s1) _ _ (λ a. onto (three.outcome₃ s3) _ _ (λ b. onto (four.outcome₄ s4) _ _ (λ c e. rw e)))
 
   -- filing it, to a slot that there is
-  pub filing-hands-on : (shelf : Shelf) (slot : ℕ) (issue : Issue) (s1 s3 s4 s5 s7 : List ℕ) → slot ≤ 63 → field_outcome s1 s3 s4 s5 s7 ≡ refused_field number section place
-      → (filed_of shelf slot issue s1 s3 s4 s5 s7).answer ≡ Refused (refusal number section place)
+  pub filing-hands-on : (shelf : Shelf) (slot : ℕ) (issue : Option ℕ) (s1 s3 s4 s5 s7 : List ℕ) → slot ≤ 63 → field_outcome s1 s3 s4 s5 s7 ≡ refused_field number section place
+      → (filed_of shelf slot issue s1 s3 s4 s5 s7).answer ≡ Err (refusal number section place)
   unfolding filed_of filing_of of_field filed_by
   filing-hands-on shelf slot issue s1 s3 s4 s5 s7 small e = rw (le-ltb 63 slot small, e)
 
   -- a record of a queue, whose body is five sections
   pub record-hands-on : (shelf : Shelf) (r : Sent) (x : FiveSections r.body) → r.slot ≤ 63 → field_outcome x.s1 x.s3 x.s4 x.s5 x.s7 ≡ refused_field number section place
-      → (record_filed shelf r).answer ≡ Refused (refusal number section place)
+      → (record_filed shelf r).answer ≡ Err (refusal number section place)
   unfolding record_filed filed_of
   record-hands-on shelf r x small e =
       let filed = ap (λ (b : List ℕ). record_filing (record { slot = r.slot; issue = r.issue; body = b })) x.strung ∙ five-filed x.s1 x.s3 x.s4 x.s5 x.s7 x.sized₁ x.sized₃ x.sized₄ x.sized₅ x.sized₇ r.slot r.issue in
       ap (λ (f : Filing). (filed_by shelf r.slot f).answer) filed ∙ filing-hands-on shelf r.slot r.issue x.s1 x.s3 x.s4 x.s5 x.s7 small e
 
   -- the explanation's line of it
-  pub line-shows : (k slot : ℕ) (issue : Issue) → record_line k slot issue (Refused (refusal number section place)) ≡ spaced k ++ (spaced slot ++ (issue_text issue ++ (ascii " refused " ++ (spaced number ++ (spaced section ++ ended place)))))
+  pub line-shows : (k slot : ℕ) (issue : Option ℕ) → record_line k slot issue (Err (refusal number section place)) ≡ spaced k ++ (spaced slot ++ (issue_text issue ++ (ascii " refused " ++ (spaced number ++ (spaced section ++ ended place)))))
   unfolding record_line
   line-shows k slot issue = refl
 

@@ -19,16 +19,15 @@ use Rattle.shelf.specs.declared.Shelf.{Shelf}
 use Rattle.shelf.specs.declared.PutDone.{PutDone}
 use Rattle.shelf.proofs.NoLess.{put-takes, another-shelf, not-empty}
 use Rattle.filing.specs.Filing.{Filing, accepted, filing_of, filed_by, filed_of}
-use Rattle.filing.specs.declared.Issue.{Issue}
-use Rattle.filing.specs.declared.Answer.TheVariants.{Kept}
+use Rattle.std.specs.Prelude.{Option, Result, Ok}
+use Rattle.layout.specs.declared.Refusal.{Refusal}
+use Rattle.filing.specs.declared.Change.TheVariants.{Kept}
 use Rattle.filing.specs.declared.Filed.{Filed}
 use Rattle.filing.proofs.SaidOfTheSlots.{slot-there}
 use Rattle.cutting.specs.Cuts.{cut_in, cut_of}
 use Rattle.queue.specs.Queues.{Sent, record_filing, record_filed, record_step, records_filed, from_start, queue_refusal, accepted_queue, queue_filed}
 use Rattle.queue.specs.declared.Counts.{Counts}
 use Rattle.queue.specs.declared.Progress.{Progress}
-use Rattle.queue.specs.declared.QueueAnswer.{QueueAnswer}
-use Rattle.queue.specs.declared.QueueAnswer.TheVariants.{Filed as filed_all}
 use Rattle.queue.specs.declared.QueueFiled.{QueueFiled}
 use Rattle.queue.proofs.FiledQueues.{files}
 use Rattle.queue.proofs.RecordsAsCards.{record-there, records-take}
@@ -54,7 +53,7 @@ moved_by s slot f card r long there e filed =
     let after : r.shelf ≡ put_shelf s slot card = ap (λ (y : Filed). y.shelf) filed ∙ ap (λ (f : Filing). (filed_by s slot f).shelf) e in
     moved s r.shelf slot card there (rw after (put-takes s slot card long there))
 
-pub filed-shelf-stays : (s : Shelf) (slot : ℕ) (issue : Issue) (s1 s3 s4 s5 s7 : List ℕ) (card : Card) (r : Filed) → length s.slots ≡ 64 → filing_of slot issue s1 s3 s4 s5 s7 ≡ accepted card → r ≡ filed_of s slot issue s1 s3 s4 s5 s7
+pub filed-shelf-stays : (s : Shelf) (slot : ℕ) (issue : Option ℕ) (s1 s3 s4 s5 s7 : List ℕ) (card : Card) (r : Filed) → length s.slots ≡ 64 → filing_of slot issue s1 s3 s4 s5 s7 ≡ accepted card → r ≡ filed_of s slot issue s1 s3 s4 s5 s7
     → (less_slot (slot_at s slot) (holding card) ≡ true → r.shelf ≢ s) × (r.shelf ≢ empty_shelf)
 unfolding filed_of
 filed-shelf-stays s slot issue s1 s3 s4 s5 s7 card r long e = moved_by s slot (filing_of slot issue s1 s3 s4 s5 s7) card r long (slot-there slot issue s1 s3 s4 s5 s7 card e) e
@@ -67,24 +66,24 @@ record-shelf-stays s x card r long e = moved_by s x.slot (record_filing x) card 
 -- ---- a queue filing that handles the first record only: of each record of a queue that is filed, if it is accepted, the slot then holds no less than
 -- its card
 
-pub first-record-only : (s : Shelf) (q : List ℕ) (r : QueueFiled) (n : Counts) (x : Sent) (card : Card) → length s.slots ≡ 64 → r ≡ queue_filed s q → r.answer ≡ filed_all n
+pub first-record-only : (s : Shelf) (q : List ℕ) (r : QueueFiled) (n : Counts) (x : Sent) (card : Card) → length s.slots ≡ 64 → r ≡ queue_filed s q → r.answer ≡ Ok n
     → Memᴰ x (cut_of record_step q).items → record_filing x ≡ accepted card → less_slot (slot_at r.shelf x.slot) (holding card) ≡ false
 first-record-only s q r n x card long e f m a =
-    let all = files q s (record { shelf = r.shelf; counts = n }) (sym e ∙ ap (λ (a : QueueAnswer). record { shelf = r.shelf; answer = a }) f) in
+    let all = files q s (record { shelf = r.shelf; counts = n }) (sym e ∙ ap (λ (a : Result Counts Refusal). record { shelf = r.shelf; answer = a }) f) in
     let after : (records_filed (from_start s) (cut_of record_step q).items).shelf ≡ r.shelf = ap (λ (p : Progress). p.shelf) all.records in
     rw after at (records-take (cut_of record_step q).items (from_start s) x card long m a)
 
 -- so its shelf does not stay either
-pub queue-shelf-stays : (s : Shelf) (q : List ℕ) (r : QueueFiled) (n : Counts) (x : Sent) (card : Card) → length s.slots ≡ 64 → r ≡ queue_filed s q → r.answer ≡ filed_all n
+pub queue-shelf-stays : (s : Shelf) (q : List ℕ) (r : QueueFiled) (n : Counts) (x : Sent) (card : Card) → length s.slots ≡ 64 → r ≡ queue_filed s q → r.answer ≡ Ok n
     → Memᴰ x (cut_of record_step q).items → record_filing x ≡ accepted card → (less_slot (slot_at s x.slot) (holding card) ≡ true → r.shelf ≢ s) × (r.shelf ≢ empty_shelf)
 queue-shelf-stays s q r n x card long e f m a =
     moved s r.shelf x.slot card (record-there x card a) (first-record-only s q r n x card long e f m a)
 
 -- ---- a lent shelf that stays as it was: that is not `Kept`
 
-pub lent-shelf-stays : (s : Shelf) (slot : ℕ) (issue : Issue) (s1 s3 s4 s5 s7 : List ℕ) → length s.slots ≡ 64 → record { shelf = s; answer = Kept } ≢ filed_of s slot issue s1 s3 s4 s5 s7
+pub lent-shelf-stays : (s : Shelf) (slot : ℕ) (issue : Option ℕ) (s1 s3 s4 s5 s7 : List ℕ) → length s.slots ≡ 64 → record { shelf = s; answer = Ok Kept } ≢ filed_of s slot issue s1 s3 s4 s5 s7
 lent-shelf-stays s slot issue s1 s3 s4 s5 s7 long e =
-    (filing-says s slot (record { issue = issue; s1 = s1; s3 = s3; s4 = s4; s5 = s5; s7 = s7 }) (record { shelf = s; answer = Kept }) long e).changed refl
+    (filing-says s slot (record { issue = issue; s1 = s1; s3 = s3; s4 = s4; s5 = s5; s7 = s7 }) (record { shelf = s; answer = Ok Kept }) long e).changed refl
 
 -- ---- a queue filing that refuses everything: the empty queue is filed, with counts 0, 0, 0
 

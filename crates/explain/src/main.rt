@@ -1,19 +1,26 @@
 // Says of each record of the queue on standard input what becomes of it, filed to an empty shelf, or that the queue is refused.
 #![tactic(auto)]
 
-use standard::Input;
+ghost use Rattle.report.specs.Texts.{explanation};
 
-fn main(rt: HostRuntime) {
-    let mut room = report::queue_buffer();
-    let input = standard::read_all(&rt, &mut room);
-    match input {
-        Input::Octets(n) => explain(&rt, &room[..n]),
-        Input::Failed(why) => standard::read_failed(&rt, why),
+use standard::Program;
+
+struct Explanation;
+
+impl Program<2163200> for Explanation {
+    ghost text_of = { explanation };
+
+    #[tactic(auto, unfolding(lent::specs::Written::starts_with))]
+    fn whole_text<'a>(queue: &[u8], room: &'a mut [u8; 2163200]) -> &'a [u8] {
+        let end = report::whole_explanation(queue, room);
+        &room[..end]
     }
 }
 
-fn explain(rt: &HostRuntime, queue: &[u8]) {
-    let mut text = report::explanation_buffer();
-    let end = report::whole_explanation(queue, &mut text);
-    standard::print(rt, &text[..end]);
+fn main(rt: HostRuntime) {
+    standard::run::<Explanation, _>(
+        &rt,
+        &mut report::queue_buffer(),
+        &mut report::explanation_buffer(),
+    );
 }

@@ -1,19 +1,26 @@
 // Tells of the message on standard input which fields it has and where in it their sections stand, or that it is refused.
 #![tactic(auto)]
 
-use standard::Input;
+ghost use Rattle.contents.specs.Contents.{contents};
 
-fn main(rt: HostRuntime) {
-    let mut room = contents::message_buffer();
-    let input = standard::read_all(&rt, &mut room);
-    match input {
-        Input::Octets(n) => tell(&rt, &room[..n]),
-        Input::Failed(why) => standard::read_failed(&rt, why),
+use standard::Program;
+
+struct Contents;
+
+impl Program<8192> for Contents {
+    ghost text_of = { contents };
+
+    #[tactic(auto, unfolding(lent::specs::Written::starts_with))]
+    fn whole_text<'a>(message: &[u8], room: &'a mut [u8; 8192]) -> &'a [u8] {
+        let end = contents::whole_contents(message, room);
+        &room[..end]
     }
 }
 
-fn tell(rt: &HostRuntime, message: &[u8]) {
-    let mut text = contents::contents_buffer();
-    let end = contents::whole_contents(message, &mut text);
-    standard::print(rt, &text[..end]);
+fn main(rt: HostRuntime) {
+    standard::run::<Contents, _>(
+        &rt,
+        &mut contents::message_buffer(),
+        &mut contents::contents_buffer(),
+    );
 }

@@ -2,7 +2,7 @@
 -- Assumes nothing.
 use mathlib.Core.Path.{◌≡◌}
 use Rattle.filing.specs.Filing.{filed_of, stored_issue}
-use Rattle.filing.specs.declared.Issue.TheVariants.{NotNamed}
+use Rattle.std.specs.Prelude.{None}
 use Rattle.entry.specs.Entry.{Entry}
 use Rattle.filing.proofs as code
 
@@ -12,7 +12,7 @@ issue-from = record { takes = λ lent given. tt; ends = code.issue_from.Met.met;
 pub file-by-value : Entry code.file_by_value.Reads.Asked code.file_by_value.Reads.Learnt code.file_by_value.Statement.statement (λ given r later. r ≡ filed_of given.0 given.1.0 given.1.1.0 given.1.1.1.0.now given.1.1.1.1.0.now given.1.1.1.1.1.0.now given.1.1.1.1.1.1.0.now given.1.1.1.1.1.1.1.0.now)
 file-by-value = record { takes = λ lent given. tt; ends = code.file_by_value.Met.met; tells = λ lent given r later e. e }
 
-pub bench-reload : Entry code.bench_reload.Reads.Asked code.bench_reload.Reads.Learnt code.bench_reload.Statement.statement (λ given r later. r ≡ filed_of given.0 given.1.0 NotNamed given.1.1.0.now given.1.1.1.0.now given.1.1.1.1.0.now given.1.1.1.1.1.0.now given.1.1.1.1.1.1.0.now)
+pub bench-reload : Entry code.bench_reload.Reads.Asked code.bench_reload.Reads.Learnt code.bench_reload.Statement.statement (λ given r later. r ≡ filed_of given.0 given.1.0 None given.1.1.0.now given.1.1.1.0.now given.1.1.1.1.0.now given.1.1.1.1.1.0.now given.1.1.1.1.1.1.0.now)
 bench-reload = record { takes = λ lent given. tt; ends = code.bench_reload.Met.met; tells = λ lent given r later e. e }
 
 -- what the shelf is left at is said of the last value under the reference, which is what its lender reads

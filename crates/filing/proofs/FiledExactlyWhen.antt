@@ -9,6 +9,7 @@ use mathlib.Core.Bool.{Bool, true, false, cond}
 use mathlib.Core.List.{List}
 use lib.Dec.{ltb}
 use borrow.Author.Tests.{ltb-false, le-ltb}
+use Rattle.std.specs.Prelude.{Option}
 use Rattle.layout.specs.Fields.{Value}
 use Rattle.layout.specs.Outcomes.{Outcome, refused, read}
 use Rattle.identification.specs.Section1.{outcome₁}
@@ -23,7 +24,6 @@ use Rattle.shelf.specs.Shelves.{put_of}
 use Rattle.shelf.specs.declared.Shelf.{Shelf}
 use Rattle.filing.specs.Filing.{Filing, refused_filing, accepted, issue_of, card_of, card_at, foreign_calendar, of_field, filing_of, kept_if, filed_by, filed_of}
 use Rattle.filing.specs.Accepted.{Gregorian, FollowsFiling, AcceptedFiling}
-use Rattle.filing.specs.declared.Issue.{Issue}
 use Rattle.filing.specs.declared.Filed.{Filed}
 use Rattle.filing.proofs.CardOctets.{card-octets}
 
@@ -45,7 +45,7 @@ field-first s1 s3 s4 s5 s7 =
 
 -- ---- filing
 
-module _ (slot : ℕ) (issue : Issue) (s1 s3 s4 s5 s7 : List ℕ) where
+module _ (slot : ℕ) (issue : Option ℕ) (s1 s3 s4 s5 s7 : List ℕ) where
   abbrev CardIs : Card → Type 0
   CardIs card = (template : Template) × Follows₁ template s1 × (card ≡ card_at template s1 (issue_of issue) s4)
 

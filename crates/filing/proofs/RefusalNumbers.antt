@@ -5,6 +5,7 @@ use mathlib.Core.Path.{◌≡◌, refl, subst}
 use mathlib.Core.List.{List}
 use mathlib.Core.Bool.{Bool, true, false}
 use lib.Dec.{ltb}
+use Rattle.std.specs.Prelude.{Option, Result, Ok, Err}
 use Rattle.layout.specs.Outcomes.{refusal}
 use Rattle.layout.specs.Refusals.{Row, Listed}
 use Rattle.layout.specs.declared.Refusal.{Refusal}
@@ -17,9 +18,7 @@ use Rattle.shelf.specs.Shelves.{put_of}
 use Rattle.shelf.specs.declared.Shelf.{Shelf}
 use Rattle.filing.specs.Filing.{Filing, refused_filing, accepted, of_field, issue_of, foreign_calendar, filing_of, kept_if, filed_by, filed_of}
 use Rattle.filing.specs.Refused.{filing_table}
-use Rattle.filing.specs.declared.Issue.{Issue}
-use Rattle.filing.specs.declared.Answer.{Answer}
-use Rattle.filing.specs.declared.Answer.TheVariants.{Kept, Passed, Refused}
+use Rattle.filing.specs.declared.Change.{Change}
 
 abbrev pub RefusesFiling : List Row → Filing → Type 0
 RefusesFiling table (refused_filing number section place) = Listed table (refusal number section place)
@@ -32,17 +31,16 @@ of-field-refuses (refused_field number section place) issue s4 p =
 of-field-refuses (read_field one three four five) issue s4 p =
     either (RefusesFiling filing_table) (foreign_calendar one) (placeless filing_table 17 1 refl refl) tt
 
-pub refuses-filing : (slot : ℕ) (issue : Issue) (s1 s3 s4 s5 s7 : List ℕ) → RefusesFiling filing_table (filing_of slot issue s1 s3 s4 s5 s7)
+pub refuses-filing : (slot : ℕ) (issue : Option ℕ) (s1 s3 s4 s5 s7 : List ℕ) → RefusesFiling filing_table (filing_of slot issue s1 s3 s4 s5 s7)
 unfolding filing_of
 refuses-filing slot issue s1 s3 s4 s5 s7 =
     either (RefusesFiling filing_table) (ltb 63 slot) (placeless filing_table 16 0 refl refl)
     (of-field-refuses (field_outcome s1 s3 s4 s5 s7) (issue_of issue) s4 (refuses-field s1 s3 s4 s5 s7))
 
 -- the answer that a filing gives
-abbrev pub RefusesAnswer : List Row → Answer → Type 0
-RefusesAnswer table Kept = Unit {0}
-RefusesAnswer table Passed = Unit {0}
-RefusesAnswer table (Refused x) = Listed table x
+abbrev pub RefusesAnswer : List Row → Result Change Refusal → Type 0
+RefusesAnswer table (Ok change) = Unit {0}
+RefusesAnswer table (Err x) = Listed table x
 
 pub answer-refuses : (table : List Row) (shelf : Shelf) (slot : ℕ) (f : Filing) → RefusesFiling table f → RefusesAnswer table (filed_by shelf slot f).answer
 unfolding filed_by
@@ -53,8 +51,8 @@ answer-refuses table shelf slot (accepted card) p = by (put_of shelf slot card).
     by true = tt
     by false = tt
 
-pub filing-refuses : (shelf : Shelf) (slot : ℕ) (issue : Issue) (s1 s3 s4 s5 s7 : List ℕ) (x : Refusal) → (filed_of shelf slot issue s1 s3 s4 s5 s7).answer ≡ Refused x → Listed filing_table x
+pub filing-refuses : (shelf : Shelf) (slot : ℕ) (issue : Option ℕ) (s1 s3 s4 s5 s7 : List ℕ) (x : Refusal) → (filed_of shelf slot issue s1 s3 s4 s5 s7).answer ≡ Err x → Listed filing_table x
 unfolding filed_of
 filing-refuses shelf slot issue s1 s3 s4 s5 s7 x e =
-    subst (λ (a : Answer). RefusesAnswer filing_table a) e
+    subst (λ (a : Result Change Refusal). RefusesAnswer filing_table a) e
     (answer-refuses filing_table shelf slot (filing_of slot issue s1 s3 s4 s5 s7) (refuses-filing slot issue s1 s3 s4 s5 s7))

@@ -6,6 +6,7 @@ use mathlib.Core.Bool.{Bool, true, false}
 use mathlib.Core.List.{List}
 use lib.ListN.{length}
 use borrow.Author.Tests.{lt-ltb}
+use Rattle.std.specs.Prelude.{Option}
 use Rattle.card.specs.declared.Card.{Card}
 use Rattle.card.proofs.Strict.{less-apart}
 use Rattle.shelf.specs.declared.Shelf.{Shelf}
@@ -13,12 +14,11 @@ use Rattle.shelf.specs.Shelves.{less_slot, holding, slot_at, put_shelf}
 use Rattle.shelf.proofs.Slots.{slot-strict}
 use Rattle.shelf.proofs.Laws.{put_other, put-raises, put-stays}
 use Rattle.filing.specs.Filing.{Filing, refused_filing, accepted, filing_of, filed_by, kept_if, Said}
-use Rattle.filing.specs.declared.Issue.{Issue}
 use Rattle.filing.proofs.FiledExactlyWhen.{filed-exactly-when}
 
 -- ---- a card is accepted only for a slot that is there: 16
 
-pub slot-there : (slot : ℕ) (issue : Issue) (s1 s3 s4 s5 s7 : List ℕ) (card : Card) → filing_of slot issue s1 s3 s4 s5 s7 ≡ accepted card → slot < 64
+pub slot-there : (slot : ℕ) (issue : Option ℕ) (s1 s3 s4 s5 s7 : List ℕ) (card : Card) → filing_of slot issue s1 s3 s4 s5 s7 ≡ accepted card → slot < 64
 slot-there slot issue s1 s3 s4 s5 s7 card e = ((filed-exactly-when slot issue s1 s3 s4 s5 s7).0 (card, e)).there
 
 -- ---- what is answered

@@ -1,6 +1,6 @@
 -- Filing a field to a slot: 16, then the field's refusals, then 17; otherwise the slot keeps the greater card.
 -- Assumes nothing.
-use Rattle.std.specs.Prelude.{ℕ, ◌-◌, ◌≡◌, ◌≢◌, List, Bool, true, false, not, cond, ltb, eqb}
+use Rattle.std.specs.Prelude.{ℕ, ◌-◌, ◌≡◌, ◌≢◌, List, Bool, true, false, not, cond, ltb, eqb, Option, Some, None, Result, Ok, Err}
 use Rattle.octets.specs.Octets.{be_at, part}
 use Rattle.layout.specs.Fields.{Value, natural_in}
 use Rattle.layout.specs.Outcomes.{refusal}
@@ -12,12 +12,8 @@ use Rattle.card.specs.declared.Card.{Card}
 use Rattle.shelf.specs.Shelves.{less_slot, holding, slot_at, put_of}
 use Rattle.shelf.specs.declared.Shelf.{Shelf}
 use Rattle.shelf.specs.declared.PutDone.{PutDone}
-use Rattle.filing.specs.declared.Issue.{Issue}
-use Rattle.filing.specs.declared.Issue.TheVariants.{NotNamed, Named}
-use Rattle.filing.specs.declared.StoredIssue.{StoredIssue}
-use Rattle.filing.specs.declared.StoredIssue.TheVariants.{Is, TooLarge}
-use Rattle.filing.specs.declared.Answer.{Answer}
-use Rattle.filing.specs.declared.Answer.TheVariants.{Kept, Passed, Refused}
+use Rattle.filing.specs.declared.Change.{Change}
+use Rattle.filing.specs.declared.Change.TheVariants.{Kept, Passed}
 use Rattle.filing.specs.declared.Filed.{Filed}
 
 -- ---- the card
@@ -26,17 +22,17 @@ use Rattle.filing.specs.declared.Filed.{Filed}
 abbrev pub default_issue : ℕ
 default_issue = 0
 
-abbrev pub issue_of : Issue → ℕ
-issue_of NotNamed = default_issue
-issue_of (Named n) = n
+abbrev pub issue_of : Option ℕ → ℕ
+issue_of None = default_issue
+issue_of (Some n) = n
 
 -- queues and callers store the issue + 1, and 0 where none is named
-abbrev pub issue_from : ℕ → Issue
-issue_from stored = cond (eqb stored 0) NotNamed (Named (stored - 1))
+abbrev pub issue_from : ℕ → Option ℕ
+issue_from stored = cond (eqb stored 0) None (Some (stored - 1))
 
--- a number above 4,294,967,296 stores none
-abbrev pub stored_issue : ℕ → StoredIssue
-stored_issue stored = cond (ltb 4294967296 stored) TooLarge (Is (issue_from stored))
+-- a number above 4,294,967,296 stores none: 19
+abbrev pub stored_issue : ℕ → Result (Option ℕ) Refusal
+stored_issue stored = cond (ltb 4294967296 stored) (Err (refusal 19 0 0)) (Ok (issue_from stored))
 
 -- the real reference time of section 1, by the values that are read of it, the issue, and octets 8-34 of section 4
 unfoldable pub card_of : List Value → ℕ → List ℕ → Card
@@ -83,25 +79,30 @@ of_field (refused_field number section place) issue s4 = refused_filing number s
 of_field (read_field one three four five) issue s4 =
     cond (foreign_calendar one) (refused_filing 17 1 0) (accepted (card_of one issue s4))
 
-unfoldable pub filing_of : ℕ → Issue → List ℕ → List ℕ → List ℕ → List ℕ → List ℕ → Filing
+unfoldable pub filing_of : ℕ → Option ℕ → List ℕ → List ℕ → List ℕ → List ℕ → List ℕ → Filing
 filing_of slot issue s1 s3 s4 s5 s7 =
     cond (ltb 63 slot) (refused_filing 16 0 0) (of_field (field_outcome s1 s3 s4 s5 s7) (issue_of issue) s4)
 
+-- what a program's answer says
+abbrev pub told : Result Card Refusal → Filing
+told (Ok card) = accepted card
+told (Err x) = refused_filing x.number x.section x.place
+
 -- ---- the shelf and the answer: kept if the slot changed, passed if it did not
 
-abbrev pub kept_if : Bool → Answer
-kept_if true = Kept
-kept_if false = Passed
+abbrev pub kept_if : Bool → Result Change Refusal
+kept_if true = Ok Kept
+kept_if false = Ok Passed
 
 abbrev pub after_put : PutDone → Filed
 after_put x = record { shelf = x.shelf; answer = kept_if x.changed }
 
 unfoldable pub filed_by : Shelf → ℕ → Filing → Filed
 filed_by shelf slot (refused_filing number section place) =
-    record { shelf = shelf; answer = Refused (refusal number section place) }
+    record { shelf = shelf; answer = Err (refusal number section place) }
 filed_by shelf slot (accepted card) = after_put (put_of shelf slot card)
 
-unfoldable pub filed_of : Shelf → ℕ → Issue → List ℕ → List ℕ → List ℕ → List ℕ → List ℕ → Filed
+unfoldable pub filed_of : Shelf → ℕ → Option ℕ → List ℕ → List ℕ → List ℕ → List ℕ → List ℕ → Filed
 filed_of shelf slot issue s1 s3 s4 s5 s7 = filed_by shelf slot (filing_of slot issue s1 s3 s4 s5 s7)
 
 -- ---- what an answer says of a filing, and of the shelf before and after it
@@ -127,7 +128,7 @@ pub record SaysRefused (before : Shelf) (filing : Filing) (after : Shelf) (x : R
   pub refuses : filing ≡ refused_filing x.number x.section x.place
   pub same : after ≡ before
 
-abbrev pub Said : Shelf → ℕ → Filing → Shelf → Answer → Type 0
-Said before slot filing after Kept = SaysKept before slot filing after
-Said before slot filing after Passed = SaysPassed before slot filing after
-Said before slot filing after (Refused x) = SaysRefused before filing after x
+abbrev pub Said : Shelf → ℕ → Filing → Shelf → Result Change Refusal → Type 0
+Said before slot filing after (Ok Kept) = SaysKept before slot filing after
+Said before slot filing after (Ok Passed) = SaysPassed before slot filing after
+Said before slot filing after (Err x) = SaysRefused before filing after x

@@ -3,49 +3,37 @@
 
 ghost use Rattle.std.specs.Prelude.{◌≡◌};
 ghost use Rattle.identification.specs.Section1.{values_in};
-ghost use Rattle.filing.specs.Filing.{issue_of, stored_issue, card_of, foreign_calendar, after_put, filed_by, filed_of, refused_filing};
+ghost use Rattle.filing.specs.Filing.{filing_of, filed_of, after_put, stored_issue, card_of, foreign_calendar, told};
 
 use card::Card;
 use identification::{CalendarCode, Identification};
 use layout::Refusal;
 use shelf::{PutDone, Shelf};
 
-// The issue that dispatch names, or that a caller names none.
-#[derive(Clone, Copy)]
-pub enum Issue {
-    NotNamed,
-    Named(u32),
-}
-
-// What a number says that stores an issue: the issue, or that it is above 4,294,967,296 and stores none.
-#[derive(Clone, Copy)]
-pub enum StoredIssue {
-    Is(Issue),
-    TooLarge,
-}
-
 // What a caller gets who names no issue.
 pub const DEFAULT_ISSUE: u32 = 0;
 
-#[derive(Clone, Copy)]
-pub enum Answer {
+// What became of a card that was put to its slot: the slot changed, or it held no less.
+#[derive(Clone, Copy, Debug, PartialEq, Eq)]
+pub enum Change {
     Kept,
     Passed,
-    Refused(Refusal),
 }
 
+// The shelf after a filing, and what became of the field.
 #[derive(Clone, Copy)]
 pub struct Filed {
     pub shelf: Shelf,
-    pub answer: Answer,
+    pub answer: Result<Change, Refusal>,
 }
 
 // Files a field to a slot of the shelf, which is handed back: as it was where the filing is refused, with 16, as the field is, or
 // with 17, and otherwise with the greater card in the slot.
+#[tactic(auto, unfolding(crate::specs::Filing::filed_of, crate::specs::Filing::filed_by))]
 pub fn file_by_value<'a>(
     shelf: Shelf,
     slot: usize,
-    issue: Issue,
+    issue: Option<u32>,
     section1: &'a [u8],
     section3: &'a [u8],
     section4: &'a [u8],
@@ -54,35 +42,57 @@ pub fn file_by_value<'a>(
 ) -> Filed
     ensures { result ≡ filed_of shelf slot issue section1.now section3.now section4.now section5.now section7.now }
 {
+    let card = card_for(
+        slot, issue, section1, section3, section4, section5, section7,
+    );
+    match card {
+        Ok(card) => after_put(shelf.put(slot, card)),
+        Err(refusal) => Filed {
+            shelf,
+            answer: Err(refusal),
+        },
+    }
+}
+
+// The card of a field that can be filed to a slot.
+#[tactic(auto, unfolding(crate::specs::Filing::filing_of, crate::specs::Filing::of_field, field::specs::Field::told))]
+fn card_for(
+    slot: usize,
+    issue: Option<u32>,
+    section1: &[u8],
+    section3: &[u8],
+    section4: &[u8],
+    section5: &[u8],
+    section7: &[u8],
+) -> Result<Card, Refusal>
+    ensures { told result ≡ filing_of slot issue section1.now section3.now section4.now section5.now section7.now }
+{
     if 63 < slot {
-        return refused(shelf, 16, 0);
+        return Err(Refusal::of(16, 0));
     }
     let answer = field::read(section1, section3, section4, section5, section7);
     let field::Answer::Read(field) = answer else {
-        return Filed {
-            shelf,
-            answer: Answer::Refused(field::refusal_of(answer)),
-        };
+        return Err(field::refusal_of(answer));
     };
     let identification = field.identification;
     if foreign_calendar(identification) {
-        return refused(shelf, 17, 1);
+        return Err(Refusal::of(17, 1));
     }
-    let card = card_of(identification, issue_of(issue), section4);
-    after_put(shelf::put(shelf, slot, card))
+    let issue = issue.unwrap_or(DEFAULT_ISSUE);
+    Ok(card_of(identification, issue, section4))
 }
 
 // The trailer's one shelf is lent to the filing call and changed there.
 pub fn file<'s, 'a>(
     shelf: &'s mut Shelf,
     slot: usize,
-    issue: Issue,
+    issue: Option<u32>,
     section1: &'a [u8],
     section3: &'a [u8],
     section4: &'a [u8],
     section5: &'a [u8],
     section7: &'a [u8],
-) -> Answer
+) -> Result<Change, Refusal>
     ensures { record { shelf = shelf.new; answer = result } ≡ filed_of shelf.old slot issue section1.now section3.now section4.now section5.now section7.now }
 {
     let done = file_by_value(
@@ -102,54 +112,21 @@ pub fn bench_reload<'a>(
     section5: &'a [u8],
     section7: &'a [u8],
 ) -> Filed
-    ensures { result ≡ filed_of shelf slot Issue.NotNamed section1.now section3.now section4.now section5.now section7.now }
+    ensures { result ≡ filed_of shelf slot None section1.now section3.now section4.now section5.now section7.now }
 {
     file_by_value(
-        shelf,
-        slot,
-        Issue::NotNamed,
-        section1,
-        section3,
-        section4,
-        section5,
-        section7,
+        shelf, slot, None, section1, section3, section4, section5, section7,
     )
 }
 
-// An issue is stored as issue + 1, and as 0 where none is named.
-pub fn issue_from(stored: u64) -> StoredIssue
+// An issue is stored as issue + 1, and as 0 where none is named. A number above 4,294,967,296 stores none: 19.
+pub fn issue_from(stored: u64) -> Result<Option<u32>, Refusal>
     ensures { result ≡ stored_issue stored }
 {
     if 4294967296 < stored {
-        return StoredIssue::TooLarge;
+        return Err(Refusal::of(19, 0));
     }
-    if stored == 0 {
-        return StoredIssue::Is(Issue::NotNamed);
-    }
-    StoredIssue::Is(Issue::Named((stored - 1) as u32))
-}
-
-#[tactic(auto, unfolding(crate::specs::Filing::filed_by))]
-fn refused(shelf: Shelf, number: u8, section: u8) -> Filed
-    ensures { result ≡ filed_by shelf 0 (refused_filing number section 0) }
-{
-    Filed {
-        shelf,
-        answer: Answer::Refused(Refusal {
-            number,
-            section,
-            place: 0,
-        }),
-    }
-}
-
-fn issue_of(issue: Issue) -> u32
-    ensures { result ≡ issue_of issue }
-{
-    match issue {
-        Issue::NotNamed => DEFAULT_ISSUE,
-        Issue::Named(n) => n,
-    }
+    Ok(stored.checked_sub(1).map(|issue| issue as u32))
 }
 
 // Whether the calendar is present and not 0, the Gregorian one.
@@ -164,6 +141,7 @@ fn foreign_calendar(x: Identification) -> bool
     }
 }
 
+#[tactic(auto, unfolding(crate::specs::Filing::card_of, identification::specs::Section1::values_in, layout::specs::Time::time_in))]
 fn card_of(x: Identification, issue: u32, section4: &[u8]) -> Card
     ensures { result ≡ card_of (values_in x) issue section4.now }
 {
@@ -187,12 +165,12 @@ fn after_put(done: PutDone) -> Filed
     if done.changed {
         Filed {
             shelf,
-            answer: Answer::Kept,
+            answer: Ok(Change::Kept),
         }
     } else {
         Filed {
             shelf,
-            answer: Answer::Passed,
+            answer: Ok(Change::Passed),
         }
     }
 }

@@ -1,7 +1,7 @@
 -- A row that is written one place after the other.
 -- Assumes nothing.
 use mathlib.Core.Path.{◌≡◌, refl, ap, sym, subst, ◌∙◌}
-use mathlib.Core.List.{List, [], ◌∷◌, ◌++◌, append-nil}
+use mathlib.Core.List.{List, [], ◌∷◌, ◌++◌, append-nil, append_assoc}
 use Prim.Native.Nat.{ℕ, zero, suc, ◌+◌, ◌-◌, ◌≤◌, ◌<◌}
 use native.Mathlib.Nat.{add-zero, add-suc, suc-add, zero-add, lt_irrefl, not-suc-le-zero, le_of_suc-le-suc}
 use native.Mathlib.Numerals.{add-one}
@@ -10,7 +10,7 @@ use lib.ListN.{length, get_or, set, take, drop, length-set, length-drop, drop_of
 use lib.Seq.{take_all, sets, sets-eq, drop-cons, ext_get_or, get_or-set_same, get_or-set_other}
 use borrow.Author.Count.{below_more}
 use Rattle.lent.specs.Lent.{over}
-use Rattle.lent.specs.Rows.{each_from}
+use Rattle.lent.specs.Rows.{each_from, in_turn}
 
 -- ---- by a function of the index; `d` is what stands past the end
 
@@ -49,6 +49,17 @@ module _ {A : Type 0} (d : A) (f : ℕ → A) where
 -- two functions that agree
 pub each_same : {A : Type 0} (d : A) (f g : ℕ → A) (n : ℕ) → ((j : ℕ) → j < n → f j ≡ g j) → each_from f 0 n ≡ each_from g 0 n
 each_same d f g n h = all-filled d g (each_from f 0 n) n n (λ j l. each-filled d f n j l ∙ h j l) (sym (length-each d f 0 n)) (length-each d f 0 n)
+
+-- lists of numbers in turn, and that of the next one
+from_any : {A : Type 0} (f : ℕ → List A) (i n : ℕ) → in_turn f i (suc n) ≡ in_turn f i n ++ f (i + n)
+unfolding in_turn
+from_any f i zero = append-nil (f i) ∙ ap f (sym (add-zero i))
+from_any f i (suc n) =
+    let next : suc i + n ≡ i + suc n = omega arith in
+    ap (λ l. f i ++ l) (from_any f (suc i) n) ∙ sym (append_assoc (f i) (in_turn f (suc i) n) (f (suc i + n))) ∙ ap (λ k. (f i ++ in_turn f (suc i) n) ++ f k) next
+
+pub in_turn-last : {A : Type 0} (f : ℕ → List A) (n : ℕ) → in_turn f 0 (n + 1) ≡ in_turn f 0 n ++ f n
+in_turn-last f n = ap (in_turn f 0) (add-one n) ∙ from_any f 0 n ∙ ap (λ k. in_turn f 0 n ++ f k) (zero-add n)
 
 -- ---- by the values of a list
 

@@ -1,3 +1,4 @@
 pub mod Lent
 pub mod Written
+pub mod Writers
 pub mod Rows

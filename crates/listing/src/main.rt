@@ -1,19 +1,26 @@
 // Lists what an empty shelf holds after the queue on standard input was filed to it, or that the queue is refused.
 #![tactic(auto)]
 
-use standard::Input;
+ghost use Rattle.report.specs.Texts.{listing};
 
-fn main(rt: HostRuntime) {
-    let mut room = report::queue_buffer();
-    let input = standard::read_all(&rt, &mut room);
-    match input {
-        Input::Octets(n) => list(&rt, &room[..n]),
-        Input::Failed(why) => standard::read_failed(&rt, why),
+use standard::Program;
+
+struct Listing;
+
+impl Program<16384> for Listing {
+    ghost text_of = { listing };
+
+    #[tactic(auto, unfolding(lent::specs::Written::starts_with))]
+    fn whole_text<'a>(queue: &[u8], room: &'a mut [u8; 16384]) -> &'a [u8] {
+        let end = report::whole_listing(queue, room);
+        &room[..end]
     }
 }
 
-fn list(rt: &HostRuntime, queue: &[u8]) {
-    let mut text = report::listing_buffer();
-    let end = report::whole_listing(queue, &mut text);
-    standard::print(rt, &text[..end]);
+fn main(rt: HostRuntime) {
+    standard::run::<Listing, _>(
+        &rt,
+        &mut report::queue_buffer(),
+        &mut report::listing_buffer(),
+    );
 }

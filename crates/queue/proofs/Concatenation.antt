@@ -5,11 +5,13 @@ use native.Mathlib.Omega.{arith}
 use mathlib.Core.Path.{◌≡◌, refl, ap, ◌∙◌}
 use mathlib.Core.List.{List, [], ◌∷◌, ◌++◌}
 use lib.ListN.{length}
+use Rattle.std.specs.Prelude.{Result, Ok, Err}
 use Rattle.cutting.specs.Cuts.{Cut, cut_of}
 use Rattle.cutting.proofs.Strung.{cut-both}
 use Rattle.shelf.specs.declared.Shelf.{Shelf}
-use Rattle.filing.specs.declared.Answer.{Answer}
-use Rattle.filing.specs.declared.Answer.TheVariants.{Kept, Passed, Refused}
+use Rattle.layout.specs.declared.Refusal.{Refusal}
+use Rattle.filing.specs.declared.Change.{Change}
+use Rattle.filing.specs.declared.Change.TheVariants.{Kept, Passed}
 use Rattle.queue.specs.Queues.{Sent, record_step, record_filed, counted, one_more, records_filed, from_start, accepted_queue, queue_filed}
 use Rattle.queue.specs.declared.Counts.{Counts}
 use Rattle.queue.specs.declared.Progress.{Progress}
@@ -31,10 +33,10 @@ added m n = record { kept = m.kept + n.kept; passed = m.passed + n.passed; refus
 same-counts : (m n : Counts) → m.kept ≡ n.kept → m.passed ≡ n.passed → m.refused ≡ n.refused → m ≡ n
 same-counts m n kept passed refused = λ i. record { kept = kept i; passed = passed i; refused = refused i }
 
-one-added : (m n : Counts) (a : Answer) → counted (added m n) a ≡ added m (counted n a)
-one-added m n Kept = same-counts _ _ (omega arith) (omega arith) (omega arith)
-one-added m n Passed = same-counts _ _ (omega arith) (omega arith) (omega arith)
-one-added m n (Refused x) = same-counts _ _ (omega arith) (omega arith) (omega arith)
+one-added : (m n : Counts) (a : Result Change Refusal) → counted (added m n) a ≡ added m (counted n a)
+one-added m n (Ok Kept) = same-counts _ _ (omega arith) (omega arith) (omega arith)
+one-added m n (Ok Passed) = same-counts _ _ (omega arith) (omega arith) (omega arith)
+one-added m n (Err x) = same-counts _ _ (omega arith) (omega arith) (omega arith)
 
 -- counts that were there before are added to those of the records
 counts-added : (rs : List Sent) (s : Shelf) (m n : Counts)

@@ -5,11 +5,13 @@ use native.Mathlib.Omega.{arith}
 use mathlib.Core.Path.{◌≡◌, refl, ap, ◌∙◌}
 use mathlib.Core.List.{List, [], ◌∷◌}
 use lib.ListN.{length, length-set}
+use Rattle.std.specs.Prelude.{Result, Ok, Err}
 use Rattle.cutting.specs.Cuts.{cut_of}
 use Rattle.shelf.specs.declared.Shelf.{Shelf}
 use Rattle.filing.specs.Filing.{Filing, refused_filing, accepted, filed_by}
-use Rattle.filing.specs.declared.Answer.{Answer}
-use Rattle.filing.specs.declared.Answer.TheVariants.{Kept, Passed, Refused}
+use Rattle.layout.specs.declared.Refusal.{Refusal}
+use Rattle.filing.specs.declared.Change.{Change}
+use Rattle.filing.specs.declared.Change.TheVariants.{Kept, Passed}
 use Rattle.filing.proofs.SaidOfTheSlots.{said}
 use Rattle.queue.specs.Queues.{Sent, record_filing, record_filed, record_step, counted, three_together, one_more, records_filed, from_start, accepted_queue, queue_filed}
 use Rattle.queue.specs.Counting.{answers_of, is_kept, is_passed, is_refused, how_many, AllSaid, Reports}
@@ -18,19 +20,19 @@ use Rattle.queue.specs.declared.Progress.{Progress}
 use Rattle.queue.proofs.FiledQueues.{files}
 use Rattle.queue.proofs.RecordsAsCards.{record-there}
 
-pub one-more : (n : Counts) (a : Answer) → three_together (counted n a) ≡ three_together n + 1
-one-more n Kept = omega arith
-one-more n Passed = omega arith
-one-more n (Refused x) = omega arith
+pub one-more : (n : Counts) (a : Result Change Refusal) → three_together (counted n a) ≡ three_together n + 1
+one-more n (Ok Kept) = omega arith
+one-more n (Ok Passed) = omega arith
+one-more n (Err x) = omega arith
 
 -- to each of the three is added whether the answer is that one
-as-answered : (n : Counts) (a : Answer) → ((counted n a).kept ≡ n.kept + is_kept a) × ((counted n a).passed ≡ n.passed + is_passed a) × ((counted n a).refused ≡ n.refused + is_refused a)
-as-answered n Kept = (omega arith, omega arith, omega arith)
-as-answered n Passed = (omega arith, omega arith, omega arith)
-as-answered n (Refused x) = (omega arith, omega arith, omega arith)
+as-answered : (n : Counts) (a : Result Change Refusal) → ((counted n a).kept ≡ n.kept + is_kept a) × ((counted n a).passed ≡ n.passed + is_passed a) × ((counted n a).refused ≡ n.refused + is_refused a)
+as-answered n (Ok Kept) = (omega arith, omega arith, omega arith)
+as-answered n (Ok Passed) = (omega arith, omega arith, omega arith)
+as-answered n (Err x) = (omega arith, omega arith, omega arith)
 
 -- a number of the counts, to which each answer adds: after the records it is what it was before, and what their answers add together
-module _ (number : Counts → ℕ) (is : Answer → ℕ) (adds : (n : Counts) (a : Answer) → number (counted n a) ≡ number n + is a) where
+module _ (number : Counts → ℕ) (is : Result Change Refusal → ℕ) (adds : (n : Counts) (a : Result Change Refusal) → number (counted n a) ≡ number n + is a) where
   counts-are : (rs : List Sent) (p : Progress) → number (records_filed p rs).counts ≡ number p.counts + how_many is (answers_of p.shelf rs)
   unfolding records_filed answers_of how_many
   counts-are [] p = omega arith

@@ -9,9 +9,9 @@ use lib.Dec.{ltb}
 use lib.ListN.{length, take, drop, length-drop, length-append}
 use lib.Seq.{take-append-le, drop-append-le}
 use borrow.Author.Tests.{ltb-false, le-ltb}
-use Rattle.cutting.specs.Numbers.{leading_number}
+use Rattle.std.specs.Prelude.{Option, Some, None}
+use Rattle.cutting.specs.Numbers.{found, leading_number}
 use Rattle.cutting.specs.Cuts.{item, cut_of}
-use Rattle.cutting.specs.declared.Number.TheVariants.{Found}
 use Rattle.cutting.proofs.Taken.{taken, number-stands, number-ahead, number-after}
 use Rattle.cutting.proofs.Cuts.{Advances, by-cut}
 use Rattle.cutting.proofs.Strung.{LooksNoFurther}
@@ -20,8 +20,6 @@ use Rattle.filing.specs.Filing.{issue_from}
 use Rattle.queue.specs.Records.{record_of}
 use Rattle.queue.specs.Queues.{Sent, record_in, record_item, record_step}
 use Rattle.queue.specs.declared.Head.{Head}
-use Rattle.queue.specs.declared.Record.{Record}
-use Rattle.queue.specs.declared.Record.TheVariants.{Whole, Broken}
 
 -- ---- a record that is read
 
@@ -32,28 +30,28 @@ pub record Stands (s : List ℕ) (h : Head) : Type 0 where
   pub a : ℕ
   pub b : ℕ
   pub c : ℕ
-  pub first : leading_number s ≡ Found h.slot a
-  pub second : leading_number (drop a s) ≡ Found stored b
-  pub third : leading_number (drop (a + b) s) ≡ Found size c
+  pub first : leading_number s ≡ found h.slot a
+  pub second : leading_number (drop a s) ≡ found stored b
+  pub third : leading_number (drop (a + b) s) ≡ found size c
   pub named : h.issue ≡ issue_from stored
   pub starts : h.start ≡ a + b + c
   pub ends : h.end ≡ a + b + c + size
   pub inside : a + b + c + size ≤ length s
 
-pub stands : (s : List ℕ) (h : Head) → record_of s ≡ Whole h → Stands s h
+pub stands : (s : List ℕ) (h : Head) → record_of s ≡ Some h → Stands s h
 unfolding record_of
 stands s h e =
-    let x = number-stands (leading_number s) _ (Whole h) broken e in
-    let y = number-stands (leading_number (drop x.1 s)) _ (Whole h) broken x.3 in
-    let z = number-stands (leading_number (drop (x.1 + y.1) s)) _ (Whole h) broken y.3 in
+    let x = number-stands (leading_number s) _ (Some h) broken e in
+    let y = number-stands (leading_number (drop x.1 s)) _ (Some h) broken x.3 in
+    let z = number-stands (leading_number (drop (x.1 + y.1) s)) _ (Some h) broken y.3 in
     by-room x.0 x.1 y.0 y.1 z.0 z.1 x.2 y.2 z.2 (ltb (length s) (x.1 + y.1 + z.1 + z.0)) refl z.3
   where
-    broken : Broken ≡ Whole h → ⊥
+    broken : None ≡ Some h → ⊥
     broken e = let z : ◌≡◌ {A = ℕ} 0 1 = cc in omega arith
 
-    by-room : (slot a stored b size c : ℕ) → leading_number s ≡ Found slot a → leading_number (drop a s) ≡ Found stored b → leading_number (drop (a + b) s) ≡ Found size c
+    by-room : (slot a stored b size c : ℕ) → leading_number s ≡ found slot a → leading_number (drop a s) ≡ found stored b → leading_number (drop (a + b) s) ≡ found size c
         → (t : Bool) → ltb (length s) (a + b + c + size) ≡ t
-        → cond t Broken (Whole (record { slot = slot; issue = issue_from stored; start = a + b + c; end = a + b + c + size })) ≡ Whole h → Stands s h
+        → cond t None (Some (record { slot = slot; issue = issue_from stored; start = a + b + c; end = a + b + c + size })) ≡ Some h → Stands s h
     by-room slot a stored b size c f g k true t e = let z : ◌≡◌ {A = ℕ} 0 1 = cc in absurd (omega arith)
     by-room slot a stored b size c f g k false t e =
         let same : slot ≡ h.slot = cc in
@@ -63,7 +61,7 @@ stands s h e =
           a = a;
           b = b;
           c = c;
-          first = f ∙ ap (λ (n : ℕ). Found n a) same;
+          first = f ∙ ap (λ (n : ℕ). found n a) same;
           second = g;
           third = k;
           named = cc;
@@ -74,11 +72,11 @@ stands s h e =
 
 -- ---- it is the same whatever stands behind it
 
-pub record-ahead : (p q : List ℕ) (h : Head) → record_of p ≡ Whole h → record_of (p ++ q) ≡ Whole h
+pub record-ahead : (p q : List ℕ) (h : Head) → record_of p ≡ Some h → record_of (p ++ q) ≡ Some h
 unfolding record_of
 record-ahead p q h e =
     let r = stands p h e in
-    let first = taken _ _ _ r.first in
+    let first = taken _ _ r.first in
     let room : ltb (length (p ++ q)) (r.a + r.b + r.c + r.size) ≡ false = le-ltb (length (p ++ q)) (r.a + r.b + r.c + r.size) (omega (arith, r.inside, length-append p q)) in
     simp (
       number-ahead p q _ _ r.first,
@@ -86,9 +84,9 @@ record-ahead p q h e =
       number-after (r.a + r.b) p q _ _ (omega (arith, r.inside)) r.third,
       room,
     )
-    (λ i. Whole (record { slot = h.slot; issue = sym r.named i; start = sym r.starts i; end = sym r.ends i }))
+    (λ i. Some (record { slot = h.slot; issue = sym r.named i; start = sym r.starts i; end = sym r.ends i }))
 
-pub record-in : (p q : List ℕ) (h : Head) → record_of p ≡ Whole h → record_in (p ++ q) h ≡ record_in p h
+pub record-in : (p q : List ℕ) (h : Head) → record_of p ≡ Some h → record_in (p ++ q) h ≡ record_in p h
 record-in p q h e =
     let r = stands p h e in
     let start : h.start ≤ length p = omega (arith, r.starts, r.inside) in
@@ -99,13 +97,13 @@ record-in p q h e =
 -- ---- so a queue is cut into records as octets are into items
 
 -- by what is found of a record
-pub by-record : (s : List ℕ) (x : Sent) (end : ℕ) → record_step s ≡ item x end → (h : Head) × (record_of s ≡ Whole h) × (item (record_in s h) h.end ≡ item x end)
+pub by-record : (s : List ℕ) (x : Sent) (end : ℕ) → record_step s ≡ item x end → (h : Head) × (record_of s ≡ Some h) × (item (record_in s h) h.end ≡ item x end)
 unfolding record_step
 by-record s x end e = by (record_of s) refl e
   where
-    by : (r : Record) → record_of s ≡ r → record_item s r ≡ item x end → (h : Head) × (record_of s ≡ Whole h) × (item (record_in s h) h.end ≡ item x end)
-    by Broken f e = let z : ◌≡◌ {A = ℕ} 0 1 = cc in absurd (omega arith)
-    by (Whole h) f e = (h, f, e)
+    by : (r : Option Head) → record_of s ≡ r → record_item s r ≡ item x end → (h : Head) × (record_of s ≡ Some h) × (item (record_in s h) h.end ≡ item x end)
+    by None f e = let z : ◌≡◌ {A = ℕ} 0 1 = cc in absurd (omega arith)
+    by (Some h) f e = (h, f, e)
 
 pub records-advance : Advances record_step
 records-advance s x end e =
@@ -113,7 +111,7 @@ records-advance s x end e =
     let found = w.2 in
     let same : w.0.end ≡ end = cc in
     let r = stands s w.0 w.1 in
-    let least = (taken _ _ _ r.first).some in
+    let least = (taken _ _ r.first).some in
     record { some = omega (arith, least, r.ends); inside = omega (arith, r.ends, r.inside) }
 
 pub records-look-no-further : LooksNoFurther record_step
@@ -123,7 +121,7 @@ records-look-no-further p q x end e =
     ap (record_item (p ++ q)) (record-ahead p q w.0 w.1) ∙ ap (λ (r : Sent). item r w.0.end) (record-in p q w.0 w.1) ∙ w.2
 
 -- what holds of octets and no records, and of a record and those that follow it if it holds of these, holds of the records of a queue
-pub by-records : (P : List ℕ → List Sent → Type 0) → ((s : List ℕ) → P s []) → ((s : List ℕ) (h : Head) (rs : List Sent) → record_of s ≡ Whole h → P (drop h.end s) rs → P s (record_in s h ∷ rs))
+pub by-records : (P : List ℕ → List Sent → Type 0) → ((s : List ℕ) → P s []) → ((s : List ℕ) (h : Head) (rs : List Sent) → record_of s ≡ Some h → P (drop h.end s) rs → P s (record_in s h ∷ rs))
     → (q : List ℕ) → P q (cut_of record_step q).items
 by-records P nothing one_more =
     by-cut record_step records-advance P nothing
@@ -140,12 +138,12 @@ by-records P nothing one_more =
 abbrev pub RecordAt : List ℕ → ℕ → Head → Type 0
 RecordAt q at h = WalksOn record_step q at (record_in (rest_at q at) h) h.end
 
-pub record-at : (q : List ℕ) (at : ℕ) (h : Head) → at ≤ length q → record_of (rest_at q at) ≡ Whole h → RecordAt q at h
+pub record-at : (q : List ℕ) (at : ℕ) (h : Head) → at ≤ length q → record_of (rest_at q at) ≡ Some h → RecordAt q at h
 unfolding record_step
 record-at q at h l e = walk-on record_step records-advance q at (record_in (rest_at q at) h) h.end l (ap (record_item (rest_at q at)) e)
 
 -- none does, or the end
-pub no-record-at : (q : List ℕ) (at : ℕ) → at < length q → record_of (rest_at q at) ≡ Broken → cut_of record_step (drop at q) ≡ record { items = []; whole = false }
+pub no-record-at : (q : List ℕ) (at : ℕ) → at < length q → record_of (rest_at q at) ≡ None → cut_of record_step (drop at q) ≡ record { items = []; whole = false }
 unfolding record_step
 no-record-at q at l e = walk-stopped record_step records-advance q at l (ap (record_item (rest_at q at)) e)
 

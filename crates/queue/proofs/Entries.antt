@@ -3,7 +3,7 @@
 use mathlib.Core.Path.{◌≡◌}
 use Rattle.queue.specs.Records.{record_of}
 use Rattle.queue.specs.Bodies.{body_of}
-use Rattle.queue.specs.Queues.{queue_refusal, record_in, record_filed, queue_filed}
+use Rattle.queue.specs.Queues.{checked, record_in, record_filed, queue_filed}
 use Rattle.entry.specs.Entry.{Entry}
 use Rattle.queue.proofs as code
 
@@ -13,8 +13,8 @@ record-of = record { takes = λ lent given. tt; ends = code.record_of.Met.met; t
 pub body-of : Entry code.body_of.Reads.Asked code.body_of.Reads.Learnt code.body_of.Statement.statement (λ given r later. r ≡ body_of given.0.now)
 body-of = record { takes = λ lent given. tt; ends = code.body_of.Met.met; tells = λ lent given r later e. e }
 
-pub refusal-number : Entry code.refusal_number.Reads.Asked code.refusal_number.Reads.Learnt code.refusal_number.Statement.statement (λ given r later. r ≡ queue_refusal given.0.now)
-refusal-number = record { takes = λ lent given. tt; ends = code.refusal_number.Met.met; tells = λ lent given r later e. e }
+pub check : Entry code.check.Reads.Asked code.check.Reads.Learnt code.check.Statement.statement (λ given r later. r ≡ checked given.0.now)
+check = record { takes = λ lent given. tt; ends = code.check.Met.met; tells = λ lent given r later e. e }
 
 pub file-record : Entry code.file_record.Reads.Asked code.file_record.Reads.Learnt code.file_record.Statement.statement (λ given r later. r ≡ record_filed given.0 (record_in given.1.0.now given.1.1.0))
 file-record = record { takes = λ lent given. tt; ends = code.file_record.Met.met; tells = λ lent given r later e. e }

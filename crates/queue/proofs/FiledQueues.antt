@@ -8,12 +8,14 @@ use mathlib.Core.List.{List}
 use lib.Dec.{ltb, eqb}
 use lib.ListN.{length}
 use borrow.Author.Tests.{le-ltb, ltb-false}
+use Rattle.std.specs.Prelude.{Result, Ok, Err}
 use Rattle.cutting.specs.Cuts.{cut_of}
 use Rattle.layout.specs.Outcomes.{refusal}
+use Rattle.layout.specs.declared.Refusal.{Refusal}
 use Rattle.shelf.specs.declared.Shelf.{Shelf}
 use Rattle.queue.specs.Queues.{record_step, records_filed, from_start, queue_refusal, refused_queue, accepted_queue, queue_filed}
+use Rattle.queue.specs.declared.Counts.{Counts}
 use Rattle.queue.specs.declared.Progress.{Progress}
-use Rattle.queue.specs.declared.QueueAnswer.TheVariants.{Filed as filed_all, Refused as refused_all}
 use Rattle.queue.specs.declared.QueueFiled.{QueueFiled}
 
 pub record FilesAll (q : List ℕ) (s : Shelf) (p : Progress) : Type 0 where
@@ -27,7 +29,7 @@ files q s p e = by_length (ltb 65536 (length q)) refl (cut_of record_step q).who
   where
     refused-files : (number : ℕ) → refused_queue s number ≡ accepted_queue p → FilesAll q s p
     refused-files number e =
-        let answers : refused_all (refusal number 0 0) ≡ filed_all p.counts = ap (λ (x : QueueFiled). x.answer) e in
+        let answers : ◌≡◌ {A = Result Counts Refusal} (Err (refusal number 0 0)) (Ok p.counts) = ap (λ (x : QueueFiled). x.answer) e in
         let z : ◌≡◌ {A = ℕ} 0 1 = cc in absurd (omega arith)
 
     by_length : (t : Bool) → ltb 65536 (length q) ≡ t → (w : Bool) → (cut_of record_step q).whole ≡ w
@@ -36,7 +38,7 @@ files q s p e = by_length (ltb 65536 (length q)) refl (cut_of record_step q).who
     by_length false t false f e = refused-files 19 e
     by_length false t true f e =
         let shelf-is : (records_filed (from_start s) (cut_of record_step q).items).shelf ≡ p.shelf = ap (λ (x : QueueFiled). x.shelf) e in
-        let answer-is : filed_all (records_filed (from_start s) (cut_of record_step q).items).counts ≡ filed_all p.counts = ap (λ (x : QueueFiled). x.answer) e in
+        let answer-is : ◌≡◌ {A = Result Counts Refusal} (Ok (records_filed (from_start s) (cut_of record_step q).items).counts) (Ok p.counts) = ap (λ (x : QueueFiled). x.answer) e in
         let counts-is : (records_filed (from_start s) (cut_of record_step q).items).counts ≡ p.counts = cc in
         record { short = ltb-false 65536 (length q) t; whole = f; records = λ i. record { shelf = shelf-is i; counts = counts-is i } }
 

@@ -1,6 +1,6 @@
 -- Five sections back to back are cut into these and filed so; a body that is not exactly five is refused with 20.
 -- Assumes nothing.
-use Prim.Native.Nat.{ℕ, ◌+◌, ◌-◌, ◌≤◌}
+use Prim.Native.Nat.{ℕ, ◌+◌, ◌-◌}
 use native.Mathlib.Nat.{zero-add}
 use native.Mathlib.Omega.{arith}
 use mathlib.Core.Path.{◌≡◌, refl, sym, ap, ap₂, subst, ◌∙◌}
@@ -10,20 +10,18 @@ use mathlib.Core.List.{List, [], ◌++◌, append_assoc, append-nil}
 use lib.Dec.{eqb}
 use lib.ListN.{length, take, drop, length-append, take-append-drop}
 use lib.Seq.{take-append_seam, drop_at, drop-drop, drop-length}
-use borrow.Author.Tests.{ne_eqb, eq-eqb, eqb-true, eqb-false}
+use borrow.Author.Tests.{eq-eqb, eqb-true}
+use Rattle.std.specs.Prelude.{Option, Some, None}
 use Rattle.cutting.specs.Sections.{stretch, section_step, end_of, end_after, Sized}
-use Rattle.cutting.proofs.Sections.{sized-spells, found-sized, EndsAfter, ends-or-none}
+use Rattle.cutting.proofs.Sections.{sized-spells, found-sized, EndsAfter, stands-after}
 use Rattle.card.specs.declared.Card.{Card}
 use Rattle.filing.specs.Filing.{Filing, refused_filing, accepted, filing_of}
 use Rattle.filing.specs.Accepted.{FollowsFiling}
 use Rattle.filing.proofs.FiledExactlyWhen.{filed-exactly-when}
-use Rattle.filing.specs.declared.Issue.{Issue}
-use Rattle.queue.specs.Bodies.{body_of}
+use Rattle.queue.specs.Bodies.{further, body_of}
 use Rattle.queue.specs.Queues.{Sent, body_filing, record_filing}
 use Rattle.queue.specs.Spelled.{back_to_back, FiveSections}
 use Rattle.queue.specs.declared.Ends.{Ends}
-use Rattle.queue.specs.declared.Body.{Body}
-use Rattle.queue.specs.declared.Body.TheVariants.{Five, NotFive}
 
 -- ---- a section that stands between others
 
@@ -31,7 +29,7 @@ module _ (s p x rest : List ℕ) (start : ℕ) (e : s ≡ p ++ (x ++ rest)) (n :
   from-there : drop start s ≡ x ++ rest
   from-there = ap (drop start) e ∙ drop_at p (x ++ rest) start n
 
-  ends_there : Sized x → end_after s start ≡ start + length x
+  ends_there : Sized x → end_after s start ≡ Some (start + length x)
   unfolding end_after
   ends_there z = ap (λ (y : List ℕ). end_of start (section_step y)) from-there ∙ ap (end_of start) (sized-spells x z rest)
 
@@ -78,32 +76,17 @@ module _ (s1 s3 s4 s5 s7 : List ℕ) (z1 : Sized s1) (z3 : Sized s3) (z4 : Sized
   long : length s ≡ end
   long = simp length-append (omega arith)
 
-  body_is : body_of s ≡ Five ends
+  body_is : body_of s ≡ Some ends
   unfolding body_of
   body_is =
-      let one = ends_there s [] s1 _ 0 refl refl z1 ∙ zero-add (length s1) in
+      let one : end_after s 0 ≡ Some (length s1) = ends_there s [] s1 _ 0 refl refl z1 ∙ ap Some (zero-add (length s1)) in
       let three = ends_there s s1 s3 _ (length s1) refl refl z3 in
       let four = ends_there s (s1 ++ s3) s4 _ ends.three two-one size-three z4 in
       let five = ends_there s ((s1 ++ s3) ++ s4) s5 _ ends.four three-one size-four z5 in
       let seven = ends_there s (((s1 ++ s3) ++ s4) ++ s5) s7 [] ends.five four-one size-five z7 in
-      rw (
-        one,
-        some (length s1) (omega (arith, z1.least)),
-        three,
-        some ends.three (omega (arith, z3.least)),
-        four,
-        some ends.four (omega (arith, z4.least)),
-        five,
-        some ends.five (omega (arith, z5.least)),
-        seven,
-        some end (omega (arith, z7.least)),
-        eq-eqb end (length s) (sym long),
-      )
-    where
-      some : (n : ℕ) → 1 ≤ n → eqb n 0 ≡ false
-      some n l = ne_eqb n 0 (λ e. omega arith)
+      rw (one, three, four, five, seven, eq-eqb end (length s) (sym long))
 
-  filed-so : (slot : ℕ) (issue : Issue) → body_filing slot issue s (Five ends) ≡ filing_of slot issue s1 s3 s4 s5 s7
+  filed-so : (slot : ℕ) (issue : Option ℕ) → body_filing slot issue s (Some ends) ≡ filing_of slot issue s1 s3 s4 s5 s7
   unfolding body_filing
   filed-so slot issue =
       let a = is-there s [] s1 _ 0 refl refl (length s1) (omega arith) in
@@ -113,25 +96,18 @@ module _ (s1 s3 s4 s5 s7 : List ℕ) (z1 : Sized s1) (z3 : Sized s3) (z4 : Sized
       let f = is-there s (((s1 ++ s3) ++ s4) ++ s5) s7 [] ends.five four-one size-five (length s) long in
       λ i. filing_of slot issue (a i) (b i) (c i) (d i) (f i)
 
-  pub five-filed : (slot : ℕ) (issue : Issue) → record_filing (record { slot = slot; issue = issue; body = s }) ≡ filing_of slot issue s1 s3 s4 s5 s7
+  pub five-filed : (slot : ℕ) (issue : Option ℕ) → record_filing (record { slot = slot; issue = issue; body = s }) ≡ filing_of slot issue s1 s3 s4 s5 s7
   unfolding record_filing
   five-filed slot issue = ap (body_filing slot issue s) body_is ∙ filed-so slot issue
 
 -- ---- and what is cut into five is these back to back
 
 -- where the next section starts, this one ends
-goes_further : (end : ℕ) (next : Body) (e : Ends) → cond (eqb end 0) NotFive next ≡ Five e → (end ≡ 0 → ⊥) × (next ≡ Five e)
-goes_further end next e f = by (eqb end 0) refl f
-  where
-    by : (t : Bool) → eqb end 0 ≡ t → cond t NotFive next ≡ Five e → (end ≡ 0 → ⊥) × (next ≡ Five e)
-    by true t f = let z : ◌≡◌ {A = ℕ} 0 1 = cc in absurd (omega arith)
-    by false t f = (eqb-false end 0 t, f)
+goes_further : (x : Option ℕ) (next : ℕ → Option Ends) (e : Ends) → further x next ≡ Some e → (end : ℕ) × (x ≡ Some end) × (next end ≡ Some e)
+goes_further None next e f = let z : ◌≡◌ {A = ℕ} 0 1 = cc in absurd (omega arith)
+goes_further (Some end) next e f = (end, refl, f)
 
 module _ (s : List ℕ) where
-  -- a section stands there if one ends
-  section-there : (start : ℕ) → (end_after s start ≡ 0 → ⊥) → EndsAfter s start (end_after s start)
-  section-there start n = ⊎_elim (λ none. absurd (n none.0)) (λ x. x) (ends-or-none s start)
-
   sized-there : {start end : ℕ} → EndsAfter s start end → Sized (stretch s start end)
   sized-there {start} {end} x = found-sized (drop start s) (stretch s start end) (end - start) x.found
 
@@ -142,24 +118,24 @@ module _ (s : List ℕ) where
       sym (take-append-drop (end - start) (drop start s))
       ∙ ap (λ (y : List ℕ). stretch s start end ++ y) (drop-drop (end - start) start s ∙ ap (λ (k : ℕ). drop k s) n)
 
-  cut-five : (e : Ends) → body_of s ≡ Five e
-      → (x : FiveSections s) × ((slot : ℕ) (issue : Issue) → body_filing slot issue s (Five e) ≡ filing_of slot issue x.s1 x.s3 x.s4 x.s5 x.s7)
+  cut-five : (e : Ends) → body_of s ≡ Some e
+      → (x : FiveSections s) × ((slot : ℕ) (issue : Option ℕ) → body_filing slot issue s (Some e) ≡ filing_of slot issue x.s1 x.s3 x.s4 x.s5 x.s7)
   unfolding body_of body_filing
   cut-five e f =
       let one = goes_further _ _ e f in
-      let three = goes_further _ _ e one.1 in
-      let four = goes_further _ _ e three.1 in
-      let five = goes_further _ _ e four.1 in
-      let seven = goes_further _ _ e five.1 in
-      by_end (section-there _ one.0) (section-there _ three.0) (section-there _ four.0) (section-there _ five.0) (section-there _ seven.0) seven.1
+      let three = goes_further _ _ e one.2 in
+      let four = goes_further _ _ e three.2 in
+      let five = goes_further _ _ e four.2 in
+      let seven = goes_further _ _ e five.2 in
+      by_end (stands-after s _ _ one.1) (stands-after s _ _ three.1) (stands-after s _ _ four.1) (stands-after s _ _ five.1) (stands-after s _ _ seven.1) seven.2
     where
       by_end : {a b c d n : ℕ} → EndsAfter s 0 a → EndsAfter s a b → EndsAfter s b c → EndsAfter s c d → EndsAfter s d n
-          → cond (eqb n (length s)) (Five (record { one = a; three = b; four = c; five = d })) NotFive ≡ Five e
-          → (x : FiveSections s) × ((slot : ℕ) (issue : Issue) → body_filing slot issue s (Five e) ≡ filing_of slot issue x.s1 x.s3 x.s4 x.s5 x.s7)
+          → cond (eqb n (length s)) (Some (record { one = a; three = b; four = c; five = d })) None ≡ Some e
+          → (x : FiveSections s) × ((slot : ℕ) (issue : Option ℕ) → body_filing slot issue s (Some e) ≡ filing_of slot issue x.s1 x.s3 x.s4 x.s5 x.s7)
       by_end {a} {b} {c} {d} {n} one three four five seven = by (eqb n (length s)) refl
         where
-          by : (t : Bool) → eqb n (length s) ≡ t → cond t (Five (record { one = a; three = b; four = c; five = d })) NotFive ≡ Five e
-              → (x : FiveSections s) × ((slot : ℕ) (issue : Issue) → body_filing slot issue s (Five e) ≡ filing_of slot issue x.s1 x.s3 x.s4 x.s5 x.s7)
+          by : (t : Bool) → eqb n (length s) ≡ t → cond t (Some (record { one = a; three = b; four = c; five = d })) None ≡ Some e
+              → (x : FiveSections s) × ((slot : ℕ) (issue : Option ℕ) → body_filing slot issue s (Some e) ≡ filing_of slot issue x.s1 x.s3 x.s4 x.s5 x.s7)
           by false t f = let z : ◌≡◌ {A = ℕ} 0 1 = cc in absurd (omega arith)
           by true t f =
               let end : n ≡ length s = eqb-true n (length s) t in
@@ -182,7 +158,7 @@ module _ (s : List ℕ) where
                       (rest-there five ∙ ap (λ (y : List ℕ). stretch s c d ++ y)
                       (rest-there last ∙ ap (λ (y : List ℕ). stretch s d (length s) ++ y) (drop-length s) ∙ append-nil _))));
                 },
-                λ slot issue. ap (λ (e : Ends). body_filing slot issue s (Five e)) ends,
+                λ slot issue. ap (λ (e : Ends). body_filing slot issue s (Some e)) ends,
               )
 
 -- a record is filed with its five sections, or its body is not exactly five and it is refused with 20
@@ -190,17 +166,17 @@ pub five-or-20 : (r : Sent) → ((x : FiveSections r.body) × (record_filing r �
 unfolding record_filing body_filing
 five-or-20 r = by (body_of r.body) refl
   where
-    filed-by : Body → Filing
+    filed-by : Option Ends → Filing
     filed-by b = body_filing r.slot r.issue r.body b
 
-    by : (b : Body) → body_of r.body ≡ b → ((x : FiveSections r.body) × (record_filing r ≡ filing_of r.slot r.issue x.s1 x.s3 x.s4 x.s5 x.s7)) ⊎ ((FiveSections r.body → ⊥) × (record_filing r ≡ refused_filing 20 0 0))
-    by NotFive f = inr (
+    by : (b : Option Ends) → body_of r.body ≡ b → ((x : FiveSections r.body) × (record_filing r ≡ filing_of r.slot r.issue x.s1 x.s3 x.s4 x.s5 x.s7)) ⊎ ((FiveSections r.body → ⊥) × (record_filing r ≡ refused_filing 20 0 0))
+    by None f = inr (
       (λ x.
           let five = ap body_of x.strung ∙ body_is x.s1 x.s3 x.s4 x.s5 x.s7 x.sized₁ x.sized₃ x.sized₄ x.sized₅ x.sized₇ in
           let z : ◌≡◌ {A = ℕ} 0 1 = cc in omega arith),
       ap filed-by f,
     )
-    by (Five e) f = let x = cut-five r.body e f in inl (x.0, ap filed-by f ∙ x.1 r.slot r.issue)
+    by (Some e) f = let x = cut-five r.body e f in inl (x.0, ap filed-by f ∙ x.1 r.slot r.issue)
 
 -- so a record is accepted exactly when its body is five sections with which a field is filed to its slot
 pub record-accepted : (r : Sent) → ((card : Card) × (record_filing r ≡ accepted card)) ↔ ((x : FiveSections r.body) × FollowsFiling r.slot x.s1 x.s3 x.s4 x.s5 x.s7)

@@ -19,7 +19,7 @@ records-join : (rs : List Sent) (s : Shelf) → Tidy s → (records_filed (from_
 records-join rs s t =
     records-are-cards rs (from_start s) ∙ file-is-join (cards_in rs) s t ∙ ap (join_shelf s) (sym (records-are-cards rs (from_start empty_shelf)))
 
--- ---- the theorems, of every shelf whose empty slots are blank, as those of histories are
+-- ---- the theorems, of every shelf of 64 slots, as those of histories are
 
 pub queue-is-joining : (q : List ℕ) (s : Shelf) → Tidy s → (queue_filed s q).shelf ≡ join_shelf s (queue_filed empty_shelf q).shelf
 unfolding queue_filed

@@ -9,37 +9,35 @@ use mathlib.Core.List.{List, ◌++◌, append_assoc}
 use lib.Dec.{ltb, eqb}
 use lib.ListN.{length, drop, take, length-append, length-drop}
 use lib.Seq.{length-take-le, take-length, drop-append_seam, drop-append-add, take-add}
-use borrow.Author.Tests.{le-ltb, ltb-false, ne_eqb, eqb-true, eqb-false}
+use borrow.Author.Tests.{le-ltb, ltb-false, ne_eqb, eq-eqb, eqb-true, eqb-false}
 use Rattle.octets.specs.Octets.{AllOctets}
 use Rattle.octets.proofs.Laws.{drop-octets}
-use Rattle.cutting.specs.Numbers.{leading_number, with_number, groups, spelled}
+use Rattle.std.specs.Prelude.{Option, Some, None, Ok, Err}
+use Rattle.cutting.specs.Numbers.{found, leading_number, with_number, groups, spelled}
 use Rattle.cutting.specs.Cuts.{Cut, item, cut_of}
 use Rattle.cutting.specs.declared.Number.{Number}
-use Rattle.cutting.specs.declared.Number.TheVariants.{Found}
 use Rattle.cutting.proofs.OneSpelling.{one-spelling, of-groups, has_one}
 use Rattle.cutting.proofs.Taken.{taken}
 use Rattle.cutting.proofs.Strung.{Spells, each_item, cut-strung, strung-cut}
+use Rattle.layout.specs.Outcomes.{refusal}
 use Rattle.shelf.specs.declared.Shelf.{Shelf}
 use Rattle.filing.specs.Filing.{issue_from}
-use Rattle.filing.specs.declared.Issue.{Issue}
-use Rattle.filing.specs.declared.Issue.TheVariants.{NotNamed, Named}
 use Rattle.queue.specs.Records.{bodied, record_of}
-use Rattle.queue.specs.Queues.{Sent, record_in, record_item, record_step, records_filed, from_start, queue_refusal, accepted_queue, queue_filed}
+use Rattle.queue.specs.Queues.{Sent, record_in, record_item, record_step, records_filed, from_start, queue_refusal, checked, accepted_queue, queue_filed}
 use Rattle.queue.specs.Spelled.{stored_of, spelled_record, spelled_all, Spellable, AllSpellable, FollowsQueue}
 use Rattle.queue.specs.declared.Head.{Head}
-use Rattle.queue.specs.declared.Record.TheVariants.{Whole, Broken}
 use Rattle.queue.proofs.Cuts.{Stands, stands, by-record, records-advance, records-look-no-further}
 
 -- ---- an issue is stored as issue + 1, or 0
 
-issue-back : (i : Issue) → issue_from (stored_of i) ≡ i
-issue-back NotNamed = refl
-issue-back (Named n) = rw (ne_eqb (n + 1) 0 (λ e. omega arith)) (ap Named (omega arith))
+issue-back : (i : Option ℕ) → issue_from (stored_of i) ≡ i
+issue-back None = refl
+issue-back (Some n) = rw (ne_eqb (n + 1) 0 (λ e. omega arith)) (ap Some (omega arith))
 
 stored_back : (n : ℕ) → stored_of (issue_from n) ≡ n
 stored_back n = by (eqb n 0) refl
   where
-    by : (t : Bool) → eqb n 0 ≡ t → stored_of (cond t NotNamed (Named (n - 1))) ≡ n
+    by : (t : Bool) → eqb n 0 ≡ t → stored_of (cond t None (Some (n - 1))) ≡ n
     by true e = sym (eqb-true n 0 e)
     by false e = let some = eqb-false n 0 e in omega arith
 
@@ -81,14 +79,14 @@ module _ (r : Sent) (p : Spellable r) where
   whole : length octets ≡ end
   whole = simp length-append (omega arith)
 
-  stands-there : record_of octets ≡ Whole head
+  stands-there : record_of octets ≡ Some head
   unfolding record_of
   stands-there =
-      ap (λ (x : Number). with_number x Broken (λ slot a. with_number (leading_number (drop a octets)) Broken (λ stored b. with_number (leading_number (drop (a + b) octets)) Broken (λ size c. bodied octets slot stored (a + b + c) size)))) (has_one r.slot _ p.slot)
-      ∙ ap (λ (x : Number). with_number x Broken (λ stored b. with_number (leading_number (drop (length A + b) octets)) Broken (λ size c. bodied octets r.slot stored (length A + b + c) size))) (ap leading_number behind-a ∙ has_one _ _ p.issue)
-      ∙ ap (λ (x : Number). with_number x Broken (λ size c. bodied octets r.slot (stored_of r.issue) (length A + length B + c) size)) (ap leading_number behind-b ∙ has_one _ _ p.body)
-      ∙ ap (λ (t : Bool). cond t Broken (Whole (record { slot = r.slot; issue = issue_from (stored_of r.issue); start = start; end = end }))) (le-ltb (length octets) end (omega (arith, whole)))
-      ∙ ap (λ (i : Issue). Whole (record { slot = r.slot; issue = i; start = start; end = end })) (issue-back r.issue)
+      ap (λ (x : Option Number). with_number x None (λ slot a. with_number (leading_number (drop a octets)) None (λ stored b. with_number (leading_number (drop (a + b) octets)) None (λ size c. bodied octets slot stored (a + b + c) size)))) (has_one r.slot _ p.slot)
+      ∙ ap (λ (x : Option Number). with_number x None (λ stored b. with_number (leading_number (drop (length A + b) octets)) None (λ size c. bodied octets r.slot stored (length A + b + c) size))) (ap leading_number behind-a ∙ has_one _ _ p.issue)
+      ∙ ap (λ (x : Option Number). with_number x None (λ size c. bodied octets r.slot (stored_of r.issue) (length A + length B + c) size)) (ap leading_number behind-b ∙ has_one _ _ p.body)
+      ∙ ap (λ (t : Bool). cond t None (Some (record { slot = r.slot; issue = issue_from (stored_of r.issue); start = start; end = end }))) (le-ltb (length octets) end (omega (arith, whole)))
+      ∙ ap (λ (i : Option ℕ). Some (record { slot = r.slot; issue = i; start = start; end = end })) (issue-back r.issue)
 
   that-record : record_in octets head ≡ r
   that-record =
@@ -106,7 +104,7 @@ cut-spelled rs p = cut-strung record_step records-advance spelled_record rs (λ 
 
 -- ---- what is read as a record is what the record spells
 
-number_spelled : (s : List ℕ) (n count : ℕ) → AllOctets s → leading_number s ≡ Found n count → spelled 5 n ≡ take count s
+number_spelled : (s : List ℕ) (n count : ℕ) → AllOctets s → leading_number s ≡ found n count → spelled 5 n ≡ take count s
 unfolding leading_number
 number_spelled s n count o e = sym (one-spelling 5 s n count o (of-groups (groups 5 s) n count e))
 
@@ -139,9 +137,9 @@ module _ (s : List ℕ) (x : Sent) (end : ℕ) (e : record_step s ≡ item x end
   found-spellable =
       subst Spellable (sym is_x)
       (record {
-        slot = (taken _ _ _ there.first).small;
-        issue = omega (arith, (taken _ _ _ there.second).small, ap stored_of there.named ∙ stored_back there.stored);
-        body = omega (arith, (taken _ _ _ there.third).small, body-size);
+        slot = (taken _ _ there.first).small;
+        issue = omega (arith, (taken _ _ there.second).small, ap stored_of there.named ∙ stored_back there.stored);
+        body = omega (arith, (taken _ _ there.third).small, body-size);
       })
 
   found-spelled : AllOctets s → spelled_record x ≡ take end s
@@ -184,6 +182,17 @@ accepted-exactly-when q o = (
     by false t true f e =
         record { small = ltb-false _ _ t; records = (cut_of record_step q).items; spellable = all-spellable q; written = sym (spelled-again q o f) }
     by false t false f e = absurd (omega arith)
+
+pub checked-exactly-when : (q : List ℕ) → AllOctets q → (checked q ≡ Ok (tt {0})) ↔ FollowsQueue q
+unfolding checked
+checked-exactly-when q o = (
+  (λ e. (accepted-exactly-when q o).0 (eqb-true (queue_refusal q) 0 (by (eqb (queue_refusal q) 0) e))),
+  (λ f. ap (λ (t : Bool). cond t (Ok (tt {0})) (Err (refusal (queue_refusal q) 0 0))) (eq-eqb _ _ ((accepted-exactly-when q o).1 f))),
+)
+  where
+    by : (t : Bool) → cond t (Ok (tt {0})) (Err (refusal (queue_refusal q) 0 0)) ≡ Ok (tt {0}) → t ≡ true
+    by true e = refl
+    by false e = let z : ◌≡◌ {A = ℕ} 0 1 = cc in absurd (omega arith)
 
 -- and the records that are then filed are these
 pub filed-spelled : (s : Shelf) (rs : List Sent) → AllSpellable rs → length (spelled_all rs) ≤ 65536 → queue_filed s (spelled_all rs) ≡ accepted_queue (records_filed (from_start s) rs)

@@ -1,37 +1,38 @@
 -- What a queue's counts are: "kept (the slot changed), passed (it did not) and refused; the three sum to the records", defined by the slots
 -- before and after each record.
 -- Assumes nothing.
-use Rattle.std.specs.Prelude.{ℕ, ◌+◌, ◌≡◌, List, [], ◌∷◌, length}
+use Rattle.std.specs.Prelude.{ℕ, ◌+◌, ◌≡◌, List, [], ◌∷◌, length, Result, Ok, Err}
 use Rattle.shelf.specs.declared.Shelf.{Shelf}
 use Rattle.filing.specs.Filing.{Said}
-use Rattle.filing.specs.declared.Answer.{Answer}
-use Rattle.filing.specs.declared.Answer.TheVariants.{Kept, Passed, Refused}
+use Rattle.layout.specs.declared.Refusal.{Refusal}
+use Rattle.filing.specs.declared.Change.{Change}
+use Rattle.filing.specs.declared.Change.TheVariants.{Kept, Passed}
 use Rattle.queue.specs.Queues.{Sent, record_filing, record_filed, three_together}
 use Rattle.queue.specs.declared.Counts.{Counts}
 
 -- what the records are answered, in the queue's order, each with the shelf that those before it left
-unfoldable pub answers_of : Shelf → List Sent → List Answer
+unfoldable pub answers_of : Shelf → List Sent → List (Result Change Refusal)
 answers_of s [] = []
 answers_of s (r ∷ rs) = (record_filed s r).answer ∷ answers_of (record_filed s r).shelf rs
 
 -- 1 for that answer, and 0 for the two others
-abbrev pub is_kept : Answer → ℕ
-is_kept Kept = 1
-is_kept Passed = 0
-is_kept (Refused x) = 0
+abbrev pub is_kept : Result Change Refusal → ℕ
+is_kept (Ok Kept) = 1
+is_kept (Ok Passed) = 0
+is_kept (Err x) = 0
 
-abbrev pub is_passed : Answer → ℕ
-is_passed Kept = 0
-is_passed Passed = 1
-is_passed (Refused x) = 0
+abbrev pub is_passed : Result Change Refusal → ℕ
+is_passed (Ok Kept) = 0
+is_passed (Ok Passed) = 1
+is_passed (Err x) = 0
 
-abbrev pub is_refused : Answer → ℕ
-is_refused Kept = 0
-is_refused Passed = 0
-is_refused (Refused x) = 1
+abbrev pub is_refused : Result Change Refusal → ℕ
+is_refused (Ok Kept) = 0
+is_refused (Ok Passed) = 0
+is_refused (Err x) = 1
 
 -- how many of the answers are that one: the sum
-unfoldable pub how_many : (Answer → ℕ) → List Answer → ℕ
+unfoldable pub how_many : (Result Change Refusal → ℕ) → List (Result Change Refusal) → ℕ
 how_many is [] = 0
 how_many is (a ∷ rest) = is a + how_many is rest
 

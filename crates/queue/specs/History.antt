@@ -1,17 +1,16 @@
 -- How a shelf came about by cards put, fields and queues filed and shelves joined in, and the cards that were ever accepted for its slots.
 -- Assumes nothing.
-use Rattle.std.specs.Prelude.{ℕ, List, [], ◌∷◌, ◌++◌, cond, eqb, ltb}
+use Rattle.std.specs.Prelude.{ℕ, List, [], ◌∷◌, ◌++◌, cond, eqb, ltb, Option}
 use Rattle.card.specs.declared.Card.{Card}
 use Rattle.cutting.specs.Cuts.{cut_of}
 use Rattle.shelf.specs.Shelves.{empty_shelf, put_of, join_shelf}
 use Rattle.shelf.specs.declared.Shelf.{Shelf}
 use Rattle.filing.specs.Filing.{Filing, refused_filing, accepted, filing_of, filed_of}
-use Rattle.filing.specs.declared.Issue.{Issue}
 use Rattle.queue.specs.Queues.{Sent, record_filing, record_step, queue_refusal, queue_filed}
 
 -- a field that is filed: an issue and five sections
 pub record FiledField : Type 0 where
-  pub issue : Issue
+  pub issue : Option ℕ
   pub s1 : List ℕ
   pub s3 : List ℕ
   pub s4 : List ℕ

@@ -1,18 +1,16 @@
 -- How a queue is written: its records one behind the other, each as slot, issue + 1 (0: not named), body length, body, and the body as five
 -- sections back to back.
 -- Assumes nothing.
-use Rattle.std.specs.Prelude.{ℕ, ◌+◌, ◌≤◌, ◌≡◌, length}
+use Rattle.std.specs.Prelude.{ℕ, ◌+◌, ◌≤◌, ◌≡◌, length, Option, Some, None}
 use mathlib.Core.List.{List, ◌++◌, Memᴰ}
 use Rattle.cutting.specs.Cuts.{strung}
 use Rattle.cutting.specs.Numbers.{spelled}
 use Rattle.cutting.specs.Sections.{Sized}
-use Rattle.filing.specs.declared.Issue.{Issue}
-use Rattle.filing.specs.declared.Issue.TheVariants.{NotNamed, Named}
 use Rattle.queue.specs.Queues.{Sent}
 
-abbrev pub stored_of : Issue → ℕ
-stored_of NotNamed = 0
-stored_of (Named n) = n + 1
+abbrev pub stored_of : Option ℕ → ℕ
+stored_of None = 0
+stored_of (Some n) = n + 1
 
 -- the three numbers in groups of seven bits, at most 5 octets each, and the body
 unfoldable pub spelled_record : Sent → List ℕ

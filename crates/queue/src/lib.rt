@@ -5,52 +5,37 @@ ghost use Rattle.std.specs.Prelude.{◌≡◌, ◌^◌, ◌<◌};
 ghost use Rattle.cutting.specs.Cuts.{cut_of};
 ghost use Rattle.queue.specs.Records.{record_of};
 ghost use Rattle.queue.specs.Bodies.{body_of};
-ghost use Rattle.queue.specs.Queues.{record_in, record_filed, record_step, three_together, one_more, records_filed, from_start, queue_refusal, queue_filed};
+ghost use Rattle.queue.specs.Queues.{record_in, record_filed, record_step, three_together, one_more, records_filed, from_start, checked, queue_filed};
 
-use cutting::Number;
-use filing::{Answer, Filed, Issue, StoredIssue};
+use filing::{Change, Filed};
 use layout::Refusal;
 use shelf::Shelf;
 
-// The slot and the issue that the queue has, and where the body stands: from index `start` up to index `end`.
-#[derive(Clone, Copy)]
+// What a record says before its body, its slot and its issue, and where the body stands: from index `start` up to index `end`.
+#[derive(Clone, Copy, Debug, PartialEq, Eq)]
 pub struct Head {
     pub slot: u64,
-    pub issue: Issue,
+    pub issue: Option<u32>,
     pub start: usize,
     pub end: usize,
 }
 
-#[derive(Clone, Copy)]
-pub enum Record {
-    Whole(Head),
-    Broken,
-}
-
-// The record at the start of these octets.
+// The record at the start of these octets, if one stands there.
 #[tactic(auto, using(cutting::proofs::Taken::taken, cutting::proofs::Walks::rest_at, filing::proofs::StoredIssues::too_large), unfolding(crate::specs::Records::record_of))]
-pub fn record_of(octets: &[u8]) -> Record
+pub fn record_of(octets: &[u8]) -> Option<Head>
     ensures { result ≡ record_of octets.now }
 {
-    let Number::Found(slot, a) = cutting::leading_number(octets) else {
-        return Record::Broken;
-    };
-    let Number::Found(stored, b) = cutting::leading_number(&octets[a..]) else {
-        return Record::Broken;
-    };
-    let Number::Found(size, c) = cutting::leading_number(&octets[a + b..]) else {
-        return Record::Broken;
-    };
-    let start = a + b + c;
-    let end = start + size as usize;
+    let slot = cutting::leading_number(octets)?;
+    let stored = cutting::leading_number(&octets[slot.octets..])?;
+    let size = cutting::leading_number(&octets[slot.octets + stored.octets..])?;
+    let start = slot.octets + stored.octets + size.octets;
+    let end = start + size.value as usize;
     if octets.len() < end {
-        return Record::Broken;
+        return None;
     }
-    let StoredIssue::Is(issue) = filing::issue_from(stored) else {
-        return Record::Broken;
-    };
-    Record::Whole(Head {
-        slot,
+    let issue = filing::issue_from(stored.value).ok()?;
+    Some(Head {
+        slot: slot.value,
         issue,
         start,
         end,
@@ -58,7 +43,7 @@ pub fn record_of(octets: &[u8]) -> Record
 }
 
 // Where sections 1, 3, 4 and 5 of a body end: the index after each one's last octet, at which the next one starts.
-#[derive(Clone, Copy)]
+#[derive(Clone, Copy, Debug, PartialEq, Eq)]
 pub struct Ends {
     pub one: usize,
     pub three: usize,
@@ -66,41 +51,20 @@ pub struct Ends {
     pub five: usize,
 }
 
-#[derive(Clone, Copy)]
-pub enum Body {
-    Five(Ends),
-    NotFive,
-}
-
-// The five sections of a body.
+// Where the five sections of a body end, if it is exactly five.
 #[tactic(auto, unfolding(crate::specs::Bodies::body_of))]
-pub fn body_of(octets: &[u8]) -> Body
+pub fn body_of(octets: &[u8]) -> Option<Ends>
     ensures { result ≡ body_of octets.now }
 {
-    let one = cutting::end_after(octets, 0);
-    if one == 0 {
-        return Body::NotFive;
-    }
-    let three = cutting::end_after(octets, one);
-    if three == 0 {
-        return Body::NotFive;
-    }
-    let four = cutting::end_after(octets, three);
-    if four == 0 {
-        return Body::NotFive;
-    }
-    let five = cutting::end_after(octets, four);
-    if five == 0 {
-        return Body::NotFive;
-    }
-    let seven = cutting::end_after(octets, five);
-    if seven == 0 {
-        return Body::NotFive;
-    }
+    let one = cutting::end_after(octets, 0)?;
+    let three = cutting::end_after(octets, one)?;
+    let four = cutting::end_after(octets, three)?;
+    let five = cutting::end_after(octets, four)?;
+    let seven = cutting::end_after(octets, five)?;
     if seven != octets.len() {
-        return Body::NotFive;
+        return None;
     }
-    Body::Five(Ends {
+    Some(Ends {
         one,
         three,
         four,
@@ -110,22 +74,17 @@ pub fn body_of(octets: &[u8]) -> Body
 
 // Files the record whose head this is and which stands at the start of these octets: 20, or as its five sections are filed. They are
 // parts of what is lent, and only the card's octets are copied.
+#[tactic(auto, unfolding(crate::specs::Queues::record_filed, crate::specs::Queues::record_filing, crate::specs::Queues::body_filing, filing::specs::Filing::filed_by, filing::specs::Filing::filed_of))]
 pub fn file_record(shelf: Shelf, octets: &[u8], head: Head) -> Filed
     ensures { result ≡ record_filed shelf (record_in octets.now head) }
 {
     let body = cutting::stretch(octets, head.start, head.end);
-    let cut = body_of(body);
-    let Body::Five(ends) = cut else {
+    let Some(ends) = body_of(body) else {
         return Filed {
             shelf,
-            answer: Answer::Refused(Refusal {
-                number: 20,
-                section: 0,
-                place: 0,
-            }),
+            answer: Err(Refusal::of(20, 0)),
         };
     };
-    let issue = head.issue;
     let section1 = cutting::stretch(body, 0, ends.one);
     let section3 = cutting::stretch(body, ends.one, ends.three);
     let section4 = cutting::stretch(body, ends.three, ends.four);
@@ -133,12 +92,12 @@ pub fn file_record(shelf: Shelf, octets: &[u8], head: Head) -> Filed
     let section7 = cutting::stretch(body, ends.five, body.len());
     let slot = head.slot as usize;
     filing::file_by_value(
-        shelf, slot, issue, section1, section3, section4, section5, section7,
+        shelf, slot, head.issue, section1, section3, section4, section5, section7,
     )
 }
 
 // How many records were kept (the slot changed), passed (it did not) and refused.
-#[derive(Clone, Copy)]
+#[derive(Clone, Copy, Debug, PartialEq, Eq)]
 pub struct Counts {
     pub kept: usize,
     pub passed: usize,
@@ -152,53 +111,45 @@ pub struct Progress {
     pub counts: Counts,
 }
 
-#[derive(Clone, Copy)]
-pub enum QueueAnswer {
-    Filed(Counts),
-    Refused(Refusal),
-}
-
+// The shelf after a queue, and what became of its records.
 #[derive(Clone, Copy)]
 pub struct QueueFiled {
     pub shelf: Shelf,
-    pub answer: QueueAnswer,
+    pub answer: Result<Counts, Refusal>,
 }
 
 // Files a queue to the shelf, which is handed back: as it was where the whole queue is refused, with 2 or 19, and otherwise with each
 // record filed after the one before it. A refused record doesn't stop the next.
-#[tactic(auto, unfolding(crate::specs::Queues::queue_filed))]
+#[tactic(auto, unfolding(crate::specs::Queues::queue_filed, crate::specs::Queues::checked))]
 pub fn file(shelf: Shelf, queue: &[u8]) -> QueueFiled
     ensures { result ≡ queue_filed shelf queue.now }
 {
-    let number = refusal_number(queue);
-    if number != 0 {
+    if let Err(refusal) = check(queue) {
         return QueueFiled {
             shelf,
-            answer: QueueAnswer::Refused(Refusal {
-                number,
-                section: 0,
-                place: 0,
-            }),
+            answer: Err(refusal),
         };
     }
     let done = file_records(shelf, queue);
-    let after = done.shelf;
-    let counts = done.counts;
     QueueFiled {
-        shelf: after,
-        answer: QueueAnswer::Filed(counts),
+        shelf: done.shelf,
+        answer: Ok(done.counts),
     }
 }
 
-// The number with which a whole queue is refused, before anything of it is filed, and 0 if it is not.
-#[tactic(auto, unfolding(crate::specs::Queues::queue_refusal))]
-pub fn refusal_number(queue: &[u8]) -> u8
-    ensures { result ≡ queue_refusal queue.now }
+// Whether a whole queue is refused, with 2 or 19, before anything of it is filed.
+#[tactic(auto, unfolding(crate::specs::Queues::checked, crate::specs::Queues::queue_refusal))]
+pub fn check(queue: &[u8]) -> Result<(), Refusal>
+    ensures { result ≡ checked queue.now }
 {
     if 65536 < queue.len() {
-        return 2;
+        return Err(Refusal::of(2, 0));
     }
-    if well_cut(queue) { 0 } else { 19 }
+    if well_cut(queue) {
+        Ok(())
+    } else {
+        Err(Refusal::of(19, 0))
+    }
 }
 
 // One record more: it counts once, as it is answered.
@@ -211,9 +162,9 @@ fn file_next(progress: Progress, octets: &[u8], head: Head) -> Progress
     let answer = filed.answer;
     let mut counts = progress.counts;
     match answer {
-        Answer::Kept => counts.kept += 1,
-        Answer::Passed => counts.passed += 1,
-        Answer::Refused(_) => counts.refused += 1,
+        Ok(Change::Kept) => counts.kept += 1,
+        Ok(Change::Passed) => counts.passed += 1,
+        Err(_) => counts.refused += 1,
     }
     Progress { shelf, counts }
 }
@@ -224,7 +175,7 @@ fn well_cut(queue: &[u8]) -> bool
 {
     let mut i: usize = 0;
     while i < queue.len() {
-        let Record::Whole(head) = record_of(&queue[i..]) else {
+        let Some(head) = record_of(&queue[i..]) else {
             return false;
         };
         i += head.end;
@@ -247,7 +198,7 @@ fn file_records(shelf: Shelf, queue: &[u8]) -> Progress
     let mut at: usize = 0;
     while at < queue.len() {
         let rest = &queue[at..];
-        let Record::Whole(head) = record_of(rest) else {
+        let Some(head) = record_of(rest) else {
             return progress;
         };
         progress = file_next(progress, rest, head);

@@ -2,30 +2,26 @@
 -- Assumes nothing.
 use mathlib.Core.Path.{◌≡◌, refl}
 use mathlib.Core.Bool.{Bool, true, false, cond}
-use mathlib.Core.List.{List, [], ◌∷◌}
+use Rattle.std.proofs.Common.{Some, None}
+use mathlib.Core.List.{List, ◌∷◌}
 use Prim.Native.Nat.{ℕ, ◌+◌, ◌*◌, ◌-◌, ◌^◌, ◌≤◌, ◌<◌}
 use native.Mathlib.Omega.{arith}
 use lib.Dec.{eqb}
 use lib.ListN.{length, drop, length-append, length-drop}
+use Rattle.std.specs.Prelude.{Option, Some, None, Result, Ok, Err}
 use Rattle.layout.specs.declared.Refusal.{Refusal}
 use Rattle.card.specs.declared.Card.{Card}
 use Rattle.cutting.specs.Cuts.{cut_of}
 use Rattle.cutting.proofs.Taken.{taken}
-use Rattle.shelf.specs.Shelves.{empty_shelf, slot_at}
-use Rattle.shelf.specs.declared.Slot.{Slot}
+use Rattle.shelf.specs.Shelves.{Slot, empty_shelf, slot_at}
 use Rattle.shelf.specs.declared.Shelf.{Shelf}
 use Rattle.filing.specs.Filing.{issue_from}
-use Rattle.filing.specs.declared.Issue.{Issue}
-use Rattle.filing.specs.declared.Issue.TheVariants.{NotNamed, Named}
-use Rattle.filing.specs.declared.Answer.{Answer}
-use Rattle.filing.specs.declared.Answer.TheVariants.{Kept, Passed, Refused}
+use Rattle.filing.specs.declared.Change.{Change}
+use Rattle.filing.specs.declared.Change.TheVariants.{Kept, Passed}
 use Rattle.queue.specs.Records.{record_of}
 use Rattle.queue.specs.Queues.{Sent, record_in, record_filed, record_step, queue_filed}
 use Rattle.queue.specs.declared.Counts.{Counts}
 use Rattle.queue.specs.declared.Head.{Head}
-use Rattle.queue.specs.declared.Record.TheVariants.{Whole}
-use Rattle.queue.specs.declared.QueueAnswer.{QueueAnswer}
-use Rattle.queue.specs.declared.QueueAnswer.TheVariants.{Filed as filed_all, Refused as refused_all}
 use Rattle.queue.proofs.Cuts.{stands, by-records}
 use Rattle.queue.proofs.FiledQueues.{files}
 use Rattle.lent.specs.Written.{written, append, starts_with}
@@ -54,19 +50,16 @@ card-line slot c =
 
 slot-line : (slot : ℕ) (x : Slot) → length (slot_line slot x) ≤ 190
 unfolding slot_line
-slot-line slot x = by-held x.held
-  where
-    by-held : (b : Bool) → length (cond b (card_line slot x.card) []) ≤ 190
-    by-held true = card-line slot x.card
-    by-held false = omega arith
+slot-line slot None = omega arith
+slot-line slot (Some c) = card-line slot c
 
 slot-lines : (s : Shelf) → length (slot_lines s) ≤ 12160
 slot-lines s = in-turn-most 190 (λ (n : ℕ). slot_line n (slot_at s n)) (λ n. slot-line n (slot_at s n)) 0 64
 
-listing-of : (s : Shelf) (a : QueueAnswer) → length (listing_of s a) ≤ 16384
+listing-of : (s : Shelf) (a : Result Counts Refusal) → length (listing_of s a) ≤ 16384
 unfolding listing_of filed_listing
-listing-of s (filed_all n) = simp length-append (omega (arith, slot-lines s, counts-line n))
-listing-of s (refused_all x) = omega (arith, refused-line x)
+listing-of s (Ok n) = simp length-append (omega (arith, slot-lines s, counts-line n))
+listing-of s (Err x) = omega (arith, refused-line x)
 
 pub listing-fits : (q : List ℕ) → length (listing q) ≤ 16384
 unfolding listing
@@ -77,16 +70,16 @@ listing-fits q = listing-of (queue_filed empty_shelf q).shelf (queue_filed empty
 issue-text : (stored : ℕ) → stored ≤ 4294967296 → length (issue_text (issue_from stored)) ≤ 10
 issue-text stored h = by-named (eqb stored 0)
   where
-    by-named : (b : Bool) → length (issue_text (cond b NotNamed (Named (stored - 1)))) ≤ 10
+    by-named : (b : Bool) → length (issue_text (cond b None (Some (stored - 1)))) ≤ 10
     by-named true = omega arith
     by-named false = decimal-short 10 (stored - 1) (omega arith) (omega arith)
 
-fate-text : (a : Answer) → length (fate a) ≤ 72
-fate-text Kept = omega arith
-fate-text Passed = omega arith
-fate-text (Refused x) = omega (arith, refused-most x)
+fate-text : (a : Result Change Refusal) → length (fate a) ≤ 72
+fate-text (Ok Kept) = omega arith
+fate-text (Ok Passed) = omega arith
+fate-text (Err x) = omega (arith, refused-most x)
 
-record-line : (k slot : ℕ) (issue : Issue) (a : Answer) → k < 10 ^ 5 → slot ≤ 4294967296 → length (issue_text issue) ≤ 10 → length (record_line k slot issue a) ≤ 99
+record-line : (k slot : ℕ) (issue : Option ℕ) (a : Result Change Refusal) → k < 10 ^ 5 → slot ≤ 4294967296 → length (issue_text issue) ≤ 10 → length (record_line k slot issue a) ≤ 99
 unfolding record_line
 record-line k slot issue a few-k few-slot few-issue =
     simp length-append (omega (arith, decimal-short 5 k (omega arith) few-k, decimal-short 10 slot (omega arith) (omega arith), fate-text a))
@@ -95,13 +88,13 @@ record-line k slot issue a few-k few-slot few-issue =
 abbrev Bounded : List ℕ → List Sent → Type 0
 Bounded s rs = (k : ℕ) (shelf : Shelf) → k + length s < 10 ^ 5 → length (record_lines k shelf rs) ≤ 33 * length s
 
-one_more : (s : List ℕ) (h : Head) (rs : List Sent) → record_of s ≡ Whole h → Bounded (drop h.end s) rs → Bounded s (record_in s h ∷ rs)
+one_more : (s : List ℕ) (h : Head) (rs : List Sent) → record_of s ≡ Some h → Bounded (drop h.end s) rs → Bounded s (record_in s h ∷ rs)
 unfolding record_lines
 one_more s h rs e others k shelf room =
     let r = stands s h e in
-    let x = taken _ _ _ r.first in
-    let y = taken _ _ _ r.second in
-    let z = taken _ _ _ r.third in
+    let x = taken _ _ r.first in
+    let y = taken _ _ r.second in
+    let z = taken _ _ r.third in
     let filed = record_filed shelf (record_in s h) in
     let line = record-line k h.slot h.issue filed.answer (omega arith) x.small (rw r.named (issue-text r.stored y.small)) in
     let rest = others (k + 1) filed.shelf (simp length-drop (omega arith)) in
@@ -112,18 +105,18 @@ unfolding record_lines
 record-lines = by-records Bounded (λ s k shelf room. omega arith) one_more
 
 -- a queue that is not refused has at most 65,536 octets
-accepted-short : (s : Shelf) (q : List ℕ) (n : Counts) → (queue_filed s q).answer ≡ filed_all n → length q ≤ 65536
+accepted-short : (s : Shelf) (q : List ℕ) (n : Counts) → (queue_filed s q).answer ≡ Ok n → length q ≤ 65536
 accepted-short s q n e = (files q s (record { shelf = (queue_filed s q).shelf; counts = n }) (λ i. record { shelf = (queue_filed s q).shelf; answer = e i })).short
 
 pub explanation-fits : (q : List ℕ) → length (explanation q) ≤ 2163200
 unfolding explanation explanation_of filed_explanation
 explanation-fits q = by_answer (queue_filed empty_shelf q).answer refl
   where
-    by_answer : (a : QueueAnswer) → (queue_filed empty_shelf q).answer ≡ a → length (explanation_of (cut_of record_step q).items a) ≤ 2163200
-    by_answer (filed_all n) e =
+    by_answer : (a : Result Counts Refusal) → (queue_filed empty_shelf q).answer ≡ a → length (explanation_of (cut_of record_step q).items a) ≤ 2163200
+    by_answer (Ok n) e =
         let short = accepted-short empty_shelf q n e in
         simp length-append (omega (arith, record-lines q 1 empty_shelf (omega arith), counts-line n))
-    by_answer (refused_all x) e = omega (arith, refused-line x)
+    by_answer (Err x) e = omega (arith, refused-line x)
 
 -- ---- so what is left at the start of the buffer is the whole text
 

@@ -1,23 +1,18 @@
 -- What the two programs print of a queue, octet by octet: the listing of what is held after filing it to an empty shelf, and the
 -- explanation of what became of each record. Decimal, one space, a minus sign before a negative year; each line ends in a line end.
 -- Assumes nothing.
-use Rattle.std.specs.Prelude.{ℕ, ◌+◌, List, [], ◌∷◌, ◌++◌, cond}
+use Rattle.std.specs.Prelude.{ℕ, ◌+◌, List, [], ◌∷◌, ◌++◌, cond, Option, Some, None, Result, Ok, Err}
 use Rattle.octets.specs.Octets.{be_at}
 use Rattle.lent.specs.Rows.{in_turn}
 use Rattle.layout.specs.declared.Refusal.{Refusal}
 use Rattle.card.specs.declared.Card.{Card}
-use Rattle.shelf.specs.Shelves.{empty_shelf, slot_at}
-use Rattle.shelf.specs.declared.Slot.{Slot}
+use Rattle.shelf.specs.Shelves.{Slot, empty_shelf, slot_at}
 use Rattle.shelf.specs.declared.Shelf.{Shelf}
-use Rattle.filing.specs.declared.Issue.{Issue}
-use Rattle.filing.specs.declared.Issue.TheVariants.{NotNamed, Named}
-use Rattle.filing.specs.declared.Answer.{Answer}
-use Rattle.filing.specs.declared.Answer.TheVariants.{Kept, Passed, Refused}
+use Rattle.filing.specs.declared.Change.{Change}
+use Rattle.filing.specs.declared.Change.TheVariants.{Kept, Passed}
 use Rattle.cutting.specs.Cuts.{cut_of}
 use Rattle.queue.specs.Queues.{Sent, record_filed, record_step, queue_filed}
 use Rattle.queue.specs.declared.Counts.{Counts}
-use Rattle.queue.specs.declared.QueueAnswer.{QueueAnswer}
-use Rattle.queue.specs.declared.QueueAnswer.TheVariants.{Filed as filed_all, Refused as refused_all}
 use Rattle.text.specs.Text.{ascii, decimal, spaced, ended, time_text, refused_text}
 
 -- ---- the lines that both have
@@ -43,7 +38,8 @@ card_line slot c =
 
 -- one line for a held slot
 unfoldable pub slot_line : ℕ → Slot → List ℕ
-slot_line slot x = cond x.held (card_line slot x.card) []
+slot_line slot None = []
+slot_line slot (Some c) = card_line slot c
 
 -- the 64 slots, rising
 abbrev pub slot_lines : Shelf → List ℕ
@@ -53,26 +49,26 @@ unfoldable pub filed_listing : Shelf → Counts → List ℕ
 filed_listing shelf n =
     ascii "slot year month day hour minute second issue template\n" ++ (slot_lines shelf ++ counts_line n)
 
-unfoldable pub listing_of : Shelf → QueueAnswer → List ℕ
-listing_of shelf (filed_all n) = filed_listing shelf n
-listing_of shelf (refused_all refusal) = refused_line refusal
+unfoldable pub listing_of : Shelf → Result Counts Refusal → List ℕ
+listing_of shelf (Ok n) = filed_listing shelf n
+listing_of shelf (Err refusal) = refused_line refusal
 
 -- ---- the explanation
 
-abbrev pub issue_text : Issue → List ℕ
-issue_text NotNamed = ascii "-"
-issue_text (Named n) = decimal n
+abbrev pub issue_text : Option ℕ → List ℕ
+issue_text None = ascii "-"
+issue_text (Some n) = decimal n
 
 abbrev pub refused_fate : Refusal → List ℕ
 refused_fate x = ascii " " ++ refused_text x
 
-abbrev pub fate : Answer → List ℕ
-fate Kept = ascii " kept\n"
-fate Passed = ascii " passed\n"
-fate (Refused x) = refused_fate x
+abbrev pub fate : Result Change Refusal → List ℕ
+fate (Ok Kept) = ascii " kept\n"
+fate (Ok Passed) = ascii " passed\n"
+fate (Err x) = refused_fate x
 
 -- a record's number, its slot and issue as the queue has them, and what became of it
-unfoldable pub record_line : ℕ → ℕ → Issue → Answer → List ℕ
+unfoldable pub record_line : ℕ → ℕ → Option ℕ → Result Change Refusal → List ℕ
 record_line k slot issue answer = spaced k ++ (spaced slot ++ (issue_text issue ++ fate answer))
 
 -- in the queue's order, each filed to the shelf that the one before it left
@@ -84,9 +80,9 @@ record_lines k s (r ∷ rs) =
 unfoldable pub filed_explanation : List Sent → Counts → List ℕ
 filed_explanation records n = ascii "record slot issue fate\n" ++ (record_lines 1 empty_shelf records ++ counts_line n)
 
-unfoldable pub explanation_of : List Sent → QueueAnswer → List ℕ
-explanation_of records (filed_all n) = filed_explanation records n
-explanation_of records (refused_all refusal) = refused_line refusal
+unfoldable pub explanation_of : List Sent → Result Counts Refusal → List ℕ
+explanation_of records (Ok n) = filed_explanation records n
+explanation_of records (Err refusal) = refused_line refusal
 
 -- ---- of a queue
 

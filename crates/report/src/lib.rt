@@ -1,5 +1,5 @@
 // What the two programs print of a queue that is filed to an empty shelf: the listing of what is then held, and the explanation of what
-// became of each record. Each function writes into a lent buffer, as far as there is room, and answers the index after what it wrote.
+// became of each record. It is written into a lent buffer, as far as there is room.
 #![tactic(auto)]
 
 ghost use Rattle.std.specs.Prelude.{◌≡◌, length, replicate};
@@ -8,13 +8,15 @@ ghost use Rattle.cutting.specs.Cuts.{cut_of};
 ghost use Rattle.queue.specs.Queues.{record_step};
 ghost use Rattle.shelf.specs.Shelves.{empty_shelf};
 ghost use Rattle.lent.specs.Written.{written, append, starts_with};
+ghost use Rattle.lent.specs.Writers.{writes};
 ghost use Rattle.report.specs.Texts.{counts_line, refused_line, card_line, slot_line, slot_lines, filed_listing, listing_of, issue_text, refused_fate, fate, record_line, record_lines, filed_explanation, explanation_of, listing, explanation};
 
 use card::Card;
-use filing::{Answer, Issue};
+use filing::Change;
 use layout::Refusal;
-use queue::{Counts, QueueAnswer, Record};
-use shelf::{Shelf, Slot};
+use lent::Writer;
+use queue::Counts;
+use shelf::Shelf;
 
 // Room for a queue, and for one octet more than the longest may have, so that a longer one is told.
 pub fn queue_buffer() -> [u8; 65537]
@@ -44,67 +46,61 @@ pub fn whole_listing(queue: &[u8], out: &mut [u8; 16384]) -> usize
 }
 
 // As much of the listing as there is room for.
+#[tactic(auto, unfolding(crate::specs::Texts::listing), using(lent::proofs::Writers::at_last))]
 pub fn listing(queue: &[u8], out: &mut [u8]) -> usize
     ensures { written out.new result ≡ append (written out.old 0) (listing queue.now) }
 {
     let filed = queue::file(Shelf::empty(), queue);
     let shelf = filed.shelf;
     let answer = filed.answer;
-    list(out, shelf, answer)
+    let mut writer = Writer::new(out, 0);
+    list(&mut writer, shelf, answer);
+    writer.at()
 }
 
-fn list(out: &mut [u8], shelf: Shelf, answer: QueueAnswer) -> usize
-    ensures { written out.new result ≡ append (written out.old 0) (listing_of shelf answer) }
+#[tactic(auto, unfolding(crate::specs::Texts::listing_of))]
+fn list(out: &mut Writer, shelf: Shelf, answer: Result<Counts, Refusal>)
+    ensures { out.new ≡ writes out.old (listing_of shelf answer) }
 {
     match answer {
-        QueueAnswer::Filed(counts) => list_filed(out, shelf, counts),
-        QueueAnswer::Refused(x) => refused_line(out, x),
+        Ok(counts) => list_filed(out, shelf, counts),
+        Err(x) => refused_line(out, x),
     }
 }
 
-fn list_filed(out: &mut [u8], shelf: Shelf, counts: Counts) -> usize
-    ensures { written out.new result ≡ append (written out.old 0) (filed_listing shelf counts) }
+fn list_filed(out: &mut Writer, shelf: Shelf, counts: Counts)
+    ensures { out.new ≡ writes out.old (filed_listing shelf counts) }
 {
-    let heading = lent::octets(
+    out.octets(b"slot year month day hour minute second issue template\n");
+    slot_lines(out, shelf);
+    counts_line(out, counts);
+}
+
+#[tactic(auto, using(lent::proofs::Writers::no_turn, lent::proofs::Writers::next_turn))]
+fn slot_lines(out: &mut Writer, shelf: Shelf)
+    ensures { out.new ≡ writes out.old (slot_lines shelf) }
+{
+    for i in 0..64 {
+        slot_line(out, i, shelf.slot(i));
+    }
+}
+
+#[tactic(auto, unfolding(crate::specs::Texts::slot_line), using(lent::proofs::Writers::no_text))]
+fn slot_line(out: &mut Writer, i: usize, slot: Option<Card>)
+    ensures { out.new ≡ writes out.old (slot_line i slot) }
+{
+    if let Some(card) = slot {
+        card_line(out, i, card);
+    }
+}
+
+#[tactic(auto, unfolding(crate::specs::Texts::card_line), using(lent::proofs::Writers::and_then))]
+fn card_line(out: &mut Writer, i: usize, card: Card)
+    ensures { out.new ≡ writes out.old (card_line i card) }
+{
+    text::number_then(out, i as u64, b' ');
+    text::time(
         out,
-        0,
-        b"slot year month day hour minute second issue template\n",
-    );
-    let slots = slot_lines(out, heading, shelf);
-    counts_line(out, slots, counts)
-}
-
-fn slot_lines(out: &mut [u8], at: usize, shelf: Shelf) -> usize
-    ensures { written out.new result ≡ append (written out.old at) (slot_lines shelf) }
-{
-    let mut next = at;
-    let mut i: usize = 0;
-    while i < 64 {
-        next = slot_line(out, next, i, shelf::slot_of(shelf, i));
-        i += 1;
-    }
-    next
-}
-
-fn slot_line(out: &mut [u8], at: usize, i: usize, slot: Slot) -> usize
-    ensures { written out.new result ≡ append (written out.old at) (slot_line i slot) }
-{
-    if !slot.held {
-        return at;
-    }
-    let card = slot.card;
-    card_line(out, at, i, card)
-}
-
-fn card_line(out: &mut [u8], at: usize, i: usize, card: Card) -> usize
-    ensures { written out.new result ≡ append (written out.old at) (card_line i card) }
-{
-    let product = card.product;
-    let template = template_in(product);
-    let a = text::number_then(out, at, i as u64, b' ');
-    let b = text::time(
-        out,
-        a,
         card.year,
         card.month,
         card.day,
@@ -112,8 +108,8 @@ fn card_line(out: &mut [u8], at: usize, i: usize, card: Card) -> usize
         card.minute,
         card.second,
     );
-    let c = text::number_then(out, b, card.issue as u64, b' ');
-    text::number_then(out, c, template as u64, b'\n')
+    text::number_then(out, card.issue as u64, b' ');
+    text::number_then(out, template_in(card.product) as u64, b'\n');
 }
 
 fn template_in(product: [u8; 27]) -> u16
@@ -122,22 +118,22 @@ fn template_in(product: [u8; 27]) -> u16
     octets::u16_at(&product, 1)
 }
 
-fn counts_line(out: &mut [u8], at: usize, counts: Counts) -> usize
-    ensures { written out.new result ≡ append (written out.old at) (counts_line counts) }
+fn counts_line(out: &mut Writer, counts: Counts)
+    ensures { out.new ≡ writes out.old (counts_line counts) }
 {
-    let a = lent::octets(out, at, b"kept ");
-    let b = text::number(out, a, counts.kept as u64);
-    let c = lent::octets(out, b, b" passed ");
-    let d = text::number(out, c, counts.passed as u64);
-    let e = lent::octets(out, d, b" refused ");
-    text::number_then(out, e, counts.refused as u64, b'\n')
+    out.octets(b"kept ");
+    text::number(out, counts.kept as u64);
+    out.octets(b" passed ");
+    text::number(out, counts.passed as u64);
+    out.octets(b" refused ");
+    text::number_then(out, counts.refused as u64, b'\n');
 }
 
-fn refused_line(out: &mut [u8], refusal: Refusal) -> usize
-    ensures { written out.new result ≡ append (written out.old 0) (refused_line refusal) }
+fn refused_line(out: &mut Writer, refusal: Refusal)
+    ensures { out.new ≡ writes out.old (refused_line refusal) }
 {
-    let a = lent::octets(out, 0, b"refused ");
-    text::number_then(out, a, refusal.number as u64, b'\n')
+    out.octets(b"refused ");
+    text::number_then(out, refusal.number as u64, b'\n');
 }
 
 // The whole explanation, at the start of a buffer that is never too small.
@@ -148,85 +144,95 @@ pub fn whole_explanation(queue: &[u8], out: &mut [u8; 2163200]) -> usize
 }
 
 // As much of the explanation as there is room for. The queue is filed once for the counts, and then each record again for its line.
+#[tactic(auto, unfolding(crate::specs::Texts::explanation), using(lent::proofs::Writers::at_last))]
 pub fn explanation(queue: &[u8], out: &mut [u8]) -> usize
     ensures { written out.new result ≡ append (written out.old 0) (explanation queue.now) }
 {
     let filed = queue::file(Shelf::empty(), queue);
     let answer = filed.answer;
-    explain(out, queue, answer)
+    let mut writer = Writer::new(out, 0);
+    explain(&mut writer, queue, answer);
+    writer.at()
 }
 
-fn explain(out: &mut [u8], queue: &[u8], answer: QueueAnswer) -> usize
-    ensures { written out.new result ≡ append (written out.old 0) (explanation_of (cut_of record_step queue.now).items answer) }
+#[tactic(auto, unfolding(crate::specs::Texts::explanation_of))]
+fn explain(out: &mut Writer, queue: &[u8], answer: Result<Counts, Refusal>)
+    ensures { out.new ≡ writes out.old (explanation_of (cut_of record_step queue.now).items answer) }
 {
     match answer {
-        QueueAnswer::Filed(counts) => explain_filed(out, queue, counts),
-        QueueAnswer::Refused(x) => refused_line(out, x),
+        Ok(counts) => explain_filed(out, queue, counts),
+        Err(x) => refused_line(out, x),
     }
 }
 
-fn explain_filed(out: &mut [u8], queue: &[u8], counts: Counts) -> usize
-    ensures { written out.new result ≡ append (written out.old 0) (filed_explanation (cut_of record_step queue.now).items counts) }
+fn explain_filed(out: &mut Writer, queue: &[u8], counts: Counts)
+    ensures { out.new ≡ writes out.old (filed_explanation (cut_of record_step queue.now).items counts) }
 {
-    let heading = lent::octets(out, 0, b"record slot issue fate\n");
-    let records = record_lines(out, heading, queue);
-    counts_line(out, records, counts)
+    out.octets(b"record slot issue fate\n");
+    record_lines(out, queue);
+    counts_line(out, counts);
 }
 
-fn record_lines(out: &mut [u8], at: usize, queue: &[u8]) -> usize
-    ensures { written out.new result ≡ append (written out.old at) (record_lines 1 empty_shelf (cut_of record_step queue.now).items) }
+fn record_lines(out: &mut Writer, queue: &[u8])
+    ensures { out.new ≡ writes out.old (record_lines 1 empty_shelf (cut_of record_step queue.now).items) }
 {
-    let mut next = at;
     let mut shelf = Shelf::empty();
     let mut k: u64 = 1;
     let mut i: usize = 0;
     while i < queue.len() {
         let rest = &queue[i..];
-        let Record::Whole(head) = queue::record_of(rest) else {
-            return next;
+        let Some(head) = queue::record_of(rest) else {
+            return;
         };
         let filed = queue::file_record(shelf, rest, head);
         let issue = head.issue;
         let answer = filed.answer;
-        next = record_line(out, next, k, head.slot, issue, answer);
+        record_line(out, k, head.slot, issue, answer);
         shelf = filed.shelf;
         k += 1;
         i += head.end;
     }
-    next
 }
 
-fn record_line(out: &mut [u8], at: usize, k: u64, slot: u64, issue: Issue, answer: Answer) -> usize
-    ensures { written out.new result ≡ append (written out.old at) (record_line k slot issue answer) }
+#[tactic(auto, unfolding(crate::specs::Texts::record_line), using(lent::proofs::Writers::and_then))]
+fn record_line(
+    out: &mut Writer,
+    k: u64,
+    slot: u64,
+    issue: Option<u32>,
+    answer: Result<Change, Refusal>,
+)
+    ensures { out.new ≡ writes out.old (record_line k slot issue answer) }
 {
-    let a = text::number_then(out, at, k, b' ');
-    let b = text::number_then(out, a, slot, b' ');
-    let c = issue_text(out, b, issue);
-    fate(out, c, answer)
+    text::number_then(out, k, b' ');
+    text::number_then(out, slot, b' ');
+    issue_text(out, issue);
+    fate(out, answer);
 }
 
-fn issue_text(out: &mut [u8], at: usize, issue: Issue) -> usize
-    ensures { written out.new result ≡ append (written out.old at) (issue_text issue) }
+fn issue_text(out: &mut Writer, issue: Option<u32>)
+    ensures { out.new ≡ writes out.old (issue_text issue) }
 {
-    let Issue::Named(n) = issue else {
-        return lent::octet(out, at, b'-');
-    };
-    text::number(out, at, n as u64)
-}
-
-fn fate(out: &mut [u8], at: usize, answer: Answer) -> usize
-    ensures { written out.new result ≡ append (written out.old at) (fate answer) }
-{
-    match answer {
-        Answer::Kept => lent::octets(out, at, b" kept\n"),
-        Answer::Passed => lent::octets(out, at, b" passed\n"),
-        Answer::Refused(x) => refused_fate(out, at, x),
+    match issue {
+        Some(n) => text::number(out, n as u64),
+        None => out.octet(b'-'),
     }
 }
 
-fn refused_fate(out: &mut [u8], at: usize, x: Refusal) -> usize
-    ensures { written out.new result ≡ append (written out.old at) (refused_fate x) }
+fn fate(out: &mut Writer, answer: Result<Change, Refusal>)
+    ensures { out.new ≡ writes out.old (fate answer) }
 {
-    let a = lent::octet(out, at, b' ');
-    text::refused(out, a, x)
+    match answer {
+        Ok(Change::Kept) => out.octets(b" kept\n"),
+        Ok(Change::Passed) => out.octets(b" passed\n"),
+        Err(x) => refused_fate(out, x),
+    }
+}
+
+#[tactic(auto, using(lent::proofs::Writers::octet_then))]
+fn refused_fate(out: &mut Writer, x: Refusal)
+    ensures { out.new ≡ writes out.old (refused_fate x) }
+{
+    out.octet(b' ');
+    text::refused(out, x);
 }

@@ -16,8 +16,7 @@ use Rattle.card.specs.Order.{max_of}
 use Rattle.card.specs.Key.{less_card}
 use Rattle.card.proofs.Strict.{not-trans, max-least-left, max-least-right, max-left, max-right}
 use Rattle.card.proofs.Cards.{card-strict, greater_card}
-use Rattle.shelf.specs.declared.Slot.{Slot}
-use Rattle.shelf.specs.Shelves.{greater_slot, blank, holding, slot_at, put_shelf}
+use Rattle.shelf.specs.Shelves.{Slot, greater_slot, blank, holding, slot_at, put_shelf}
 use Rattle.shelf.specs.History.{Keeps, nothing, greatest, Tidy}
 use Rattle.shelf.proofs.CardHistory.{CardHistory, start, put, join, shelf_of, accepted_at}
 use Rattle.shelf.proofs.Slots.{slot-join, blank-greater, held-greater}

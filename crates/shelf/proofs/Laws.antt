@@ -1,11 +1,11 @@
 -- Joining two shelves may be done either way round, in any grouping and twice over with the same outcome; the empty shelf adds nothing; putting a card is joining with the shelf that has only that; and filing a list of cards is joining with the shelf that the list makes from empty.
 -- Assumes nothing.
-use mathlib.Core.Path.{◌≡◌, refl, sym, ap, subst, ◌∙◌}
+use mathlib.Core.Path.{◌≡◌, refl, sym, ap, ◌∙◌}
 use mathlib.Core.Bool.{Bool, true, false, true≢false, ◌&&◌}
 use mathlib.Core.List.{List, [], ◌∷◌}
 use mathlib.Core.Logic.{◌≢◌}
 use Prim.Native.Nat.{ℕ, ◌<◌, ◌≤◌}
-use native.Mathlib.Decide.{ℕ_discrete, dec_le}
+use native.Mathlib.Decide.{dec_le}
 use native.Mathlib.Omega.{arith}
 use lib.ListN.{length, set, replicate, length-set, length-replicate, get_or-replicate}
 use lib.Dec.{ltb}
@@ -13,13 +13,13 @@ use borrow.Author.Tests.{lt-ltb, ltb-true}
 use lib.Seq.{get_or-set_same, get_or-set_other, set-get_or, set_out}
 use Rattle.card.specs.declared.Card.{Card}
 use Rattle.card.proofs.Strict.{Join, less-apart, max-left, max-right}
-use Rattle.shelf.specs.declared.Slot.{Slot}
 use Rattle.shelf.specs.declared.Shelf.{Shelf}
-use Rattle.shelf.specs.Shelves.{less_slot, greater_slot, blank, holding, slot_at, empty_shelf, put_shelf, put_of, join_shelf}
+use Rattle.shelf.specs.declared.PutDone.{PutDone}
+use Rattle.shelf.specs.Shelves.{Slot, less_slot, greater_slot, blank, holding, slot_at, empty_shelf, put_shelf, put_of, join_shelf}
 use Rattle.shelf.specs.History.{Tidy}
 use Rattle.shelf.proofs.CardHistory.{file_all}
 use Rattle.shelf.proofs.Pointwise.{zip-join, zip_length, zip-at, zip-least, zip-set}
-use Rattle.shelf.proofs.Slots.{slot-strict, slot-join, greater-blank, blank-greater, one_of}
+use Rattle.shelf.proofs.Slots.{slot-strict, slot-join, greater-blank, blank-greater}
 
 abbrev pub shelf : List Slot → Shelf
 shelf l = record { slots = l }
@@ -34,12 +34,8 @@ shelf-join =
 
 -- ---- what the functions keep
 
--- a slot that is empty is blank
-abbrev Clean : Slot → Type 0
-Clean s = s.held ≡ false → s ≡ blank
-
 pub tidy-empty : Tidy empty_shelf
-tidy-empty = record { long = length-replicate 64 blank; clean = λ n h e. get_or-replicate 64 n blank blank h }
+tidy-empty = record { long = length-replicate 64 blank }
 
 pub put_same : (s : Shelf) (n : ℕ) (c : Card) → length s.slots ≡ 64 → n < 64 → slot_at (put_shelf s n c) n ≡ greater_slot (slot_at s n) (holding c)
 put_same s n c long h = get_or-set_same s.slots n _ blank (omega arith)
@@ -51,30 +47,15 @@ pub join-at : (a b : Shelf) (n : ℕ) → length a.slots ≡ 64 → length b.slo
 join-at a b n s t h = zip-at greater_slot n a.slots b.slots blank (omega arith) (omega arith)
 
 pub tidy-put : (s : Shelf) (n : ℕ) (c : Card) → Tidy s → Tidy (put_shelf s n c)
-tidy-put s n c t =
-    record {
-      long = length-set s.slots n _ ∙ t.long;
-      clean = λ k h. go k h (ℕ_discrete k n);
-    }
-  where
-    here : n < 64 → Clean (slot_at (put_shelf s n c) n)
-    here h = rw (put_same s n c t.long h) (one_of Clean (slot_at s n) (holding c) (t.clean n h) (λ e. absurd (true≢false e)))
-
-    go : (k : ℕ) → k < 64 → Dec (k ≡ n) → Clean (slot_at (put_shelf s n c) k)
-    go k h (yes e) = subst (λ (m : ℕ). Clean (slot_at (put_shelf s n c) m)) (sym e) (here (omega arith))
-    go k h (no d) = rw (put_other s n k c d) (t.clean k h)
+tidy-put s n c t = record { long = length-set s.slots n _ ∙ t.long }
 
 pub tidy-join : (a b : Shelf) → Tidy a → Tidy b → Tidy (join_shelf a b)
-tidy-join a b s t =
-    record {
-      long = zip_length greater_slot 64 a.slots b.slots s.long t.long;
-      clean = λ n h. rw (join-at a b n s.long t.long h) (one_of Clean (slot_at a n) (slot_at b n) (s.clean n h) (t.clean n h));
-    }
+tidy-join a b s t = record { long = zip_length greater_slot 64 a.slots b.slots s.long t.long }
 
 -- ---- the empty shelf, one card, a list of cards
 
 pub join-empty : (s : Shelf) → Tidy s → join_shelf s empty_shelf ≡ s
-join-empty s t = ap shelf (zip-least greater_slot 64 s.slots blank t.long (λ k h. greater-blank (slot_at s k) (t.clean k h)))
+join-empty s t = ap shelf (zip-least greater_slot 64 s.slots blank t.long (λ k h. greater-blank (slot_at s k)))
 
 pub put-is-join : (s : Shelf) (n : ℕ) (c : Card) → Tidy s → put_shelf s n c ≡ join_shelf s (put_shelf empty_shelf n c)
 put-is-join s n c t = go (dec_le 64 n)
@@ -90,7 +71,7 @@ put-is-join s n c t = go (dec_le 64 n)
     go (no d) =
         let h : n < 64 = omega arith in
         ap (λ (z : Slot). shelf (set s.slots n (greater_slot (slot_at s n) z))) (sym (only h)) ∙
-        sym (ap shelf (zip-set greater_slot 64 n s.slots blank _ t.long h (λ k l. greater-blank (slot_at s k) (t.clean k l))))
+        sym (ap shelf (zip-set greater_slot 64 n s.slots blank _ t.long h (λ k l. greater-blank (slot_at s k))))
 
 pub file-is-join : (q : List (ℕ × Card)) (s : Shelf) → Tidy s → file_all q s ≡ join_shelf s (file_all q empty_shelf)
 unfolding file_all
@@ -122,11 +103,23 @@ unchanged-same s n c long k = by-room (dec_le 64 n)
     by-room (yes h) = ap shelf (set_out s.slots n _ (omega arith))
     by-room (no d) = let l : ltb n 64 ≡ true = lt-ltb n 64 (omega arith) in put-stays s n c (rw l at k)
 
+both_hold : (a b : Bool) → (a && b) ≡ true → (a ≡ true) × (b ≡ true)
+both_hold true b e = (refl, e)
+both_hold false b e = absurd (true≢false (sym e))
+
 pub changed-differs : (s : Shelf) (n : ℕ) (c : Card) → length s.slots ≡ 64 → (put_of s n c).changed ≡ true → slot_at (put_shelf s n c) n ≢ slot_at s n
 changed-differs s n c long k e =
     let b = both_hold (ltb n 64) (less_slot (slot_at s n) (holding c)) k in
     less-apart slot-strict b.1 (sym e ∙ put-raises s n c long (ltb-true _ _ b.0) b.1)
-  where
-    both_hold : (a b : Bool) → (a && b) ≡ true → (a ≡ true) × (b ≡ true)
-    both_hold true b e = (refl, e)
-    both_hold false b e = absurd (true≢false (sym e))
+
+-- what putting a card comes to, by what is said of it
+
+pub put_changed : (s : Shelf) (n : ℕ) (c : Card) (t : Bool) → t ≡ (put_of s n c).changed → t ≡ true → ◌≡◌ {A = PutDone} (record { shelf = shelf (set s.slots n (holding c)); changed = t }) (put_of s n c)
+unfolding greater_slot
+put_changed s n c t e h =
+    let b = both_hold (ltb n 64) (less_slot (slot_at s n) (holding c)) (sym e ∙ h) in
+    let raised = max-right slot-strict (slot_at s n) (holding c) b.1 in
+    λ i. record { shelf = shelf (set s.slots n (sym raised i)); changed = e i }
+
+pub put_unchanged : (s : Shelf) (n : ℕ) (c : Card) (t : Bool) → length s.slots ≡ 64 → t ≡ (put_of s n c).changed → t ≡ false → ◌≡◌ {A = PutDone} (record { shelf = s; changed = t }) (put_of s n c)
+put_unchanged s n c t long e h = λ i. record { shelf = sym (unchanged-same s n c long (sym e ∙ h)) i; changed = e i }

@@ -13,9 +13,8 @@ use lib.ListN.{length, length-set, get_or-replicate}
 use lib.Seq.{set_out}
 use Rattle.card.specs.declared.Card.{Card}
 use Rattle.card.proofs.Strict.{not-trans, max-least-left, max-least-right}
-use Rattle.shelf.specs.declared.Slot.{Slot}
 use Rattle.shelf.specs.declared.Shelf.{Shelf}
-use Rattle.shelf.specs.Shelves.{less_slot, greater_slot, blank, holding, slot_at, empty_shelf, put_shelf}
+use Rattle.shelf.specs.Shelves.{Slot, less_slot, greater_slot, blank, holding, slot_at, empty_shelf, put_shelf}
 use Rattle.shelf.proofs.CardHistory.{file_all}
 use Rattle.shelf.proofs.Slots.{slot-strict, blank-below}
 use Rattle.shelf.proofs.Laws.{shelf, put_same, put_other}

@@ -1,23 +1,24 @@
 -- What a shelf holds: slots in an order of their own, in which an empty slot is below each that holds a card.
 -- Assumes nothing.
-use Rattle.std.specs.Prelude.{Bool, true, false, ◌&&◌, ℕ, ℤ, pos, ltb, get_or, set, replicate}
-use mathlib.Core.List.{List, ◌∷◌, zip_with}
+use Rattle.std.specs.Prelude.{Bool, ◌&&◌, ℕ, ℤ, ltb, get_or, set, replicate, Option, Some, None}
+use mathlib.Core.List.{List, [], zip_with}
 use Rattle.std.specs.Int.Signed.{lt_z}
 use Rattle.card.specs.declared.Card.{Card}
 use Rattle.card.specs.Order.{lex, max_of}
 use Rattle.card.specs.Key.{key_of}
-use Rattle.shelf.specs.declared.Slot.{Slot}
 use Rattle.shelf.specs.declared.Shelf.{Shelf}
 use Rattle.shelf.specs.declared.PutDone.{PutDone}
 
-abbrev pub held_key : Bool → ℤ
-held_key false = pos 0
-held_key true = pos 1
+-- a slot holds a card, or none
+abbrev pub Slot : Type 0
+Slot = Option Card
 
--- what slots are compared by: held or not, and then the card
+-- what slots are compared by: of an empty slot nothing, which is below each that holds a card, and else the card
 unfoldable pub slot_key : Slot → List ℤ
-slot_key s = held_key s.held ∷ key_of s.card
+slot_key None = []
+slot_key (Some c) = key_of c
 
+-- whether the first slot is less than the second
 unfoldable pub less_slot : Slot → Slot → Bool
 less_slot a b = lex lt_z (slot_key a) (slot_key b)
 
@@ -25,25 +26,12 @@ unfoldable pub greater_slot : Slot → Slot → Slot
 greater_slot = max_of less_slot
 
 -- the empty slot
-unfoldable pub blank : Slot
-blank =
-    record {
-      held = false;
-      card = record {
-        year = pos 0;
-        month = 0;
-        day = 0;
-        hour = 0;
-        minute = 0;
-        second = 0;
-        issue = 0;
-        product = replicate 27 0;
-      };
-    }
+abbrev pub blank : Slot
+blank = None
 
 -- the slot that holds a card
 abbrev pub holding : Card → Slot
-holding c = record { held = true; card = c }
+holding c = Some c
 
 abbrev pub empty_shelf : Shelf
 empty_shelf = record { slots = replicate 64 blank }

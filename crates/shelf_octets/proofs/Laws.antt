@@ -1,16 +1,18 @@
 -- A shelf's octets: how many there are, that those of the empty shelf are all zero, and that a shelf is read back from its octets.
 -- Assumes nothing.
 use mathlib.Core.Path.{◌≡◌, refl, sym, ap, ap₂, subst⁻¹, ◌∙◌}
-use mathlib.Core.Bool.{Bool, true, false, cond, true≢false}
+use mathlib.Core.Bool.{Bool, true, false, cond}
+use Rattle.std.proofs.Common.{Some, None, IfSome}
 use mathlib.Core.List.{List, [], ◌∷◌, ◌++◌}
 use mathlib.Core.Logic.{◌≢◌}
-use Prim.Native.Nat.{ℕ, zero, suc, ◌+◌, ◌*◌, ◌≤◌, ◌<◌}
+use Prim.Native.Nat.{ℕ, zero, suc, ◌+◌, ◌*◌, ◌/◌, ◌%◌, ◌^◌, ◌≤◌, ◌<◌}
+use Rattle.std.specs.Int.{to_be_bytes, w32}
 use native.Mathlib.Decide.{ℕ_discrete}
 use native.Mathlib.Omega.{arith}
 use native.Mathlib.Nat.{add-zero, not-suc-le-zero, le_of_suc-le-suc}
 use native.Mathlib.Numerals.{add-one}
 use lib.Dec.{eqb}
-use lib.ListN.{length, take, drop, replicate, get_or, length-append, length-replicate, get_or-replicate, replicate-append-replicate}
+use lib.ListN.{length, take, drop, replicate, get_or, get_or-eq_default, length-append, length-replicate, get_or-replicate, replicate-append-replicate}
 use lib.Seq.{take_at, drop_at, take_all, drop-cons, drop-drop, get_or-take, get_or-drop, ext_get_or}
 use borrow.Author.Tests.{ne_eqb}
 use Rattle.octets.specs.Octets.{octet, be_at, part, be, digits, AllOctets}
@@ -21,9 +23,8 @@ use Rattle.lent.specs.Written.{written, append}
 use Rattle.lent.proofs.Written.{append-whole, starts-over}
 use Rattle.lent.proofs.Rows.{over-whole}
 use Rattle.card.specs.declared.Card.{Card}
-use Rattle.shelf.specs.declared.Slot.{Slot}
 use Rattle.shelf.specs.declared.Shelf.{Shelf}
-use Rattle.shelf.specs.Shelves.{blank, holding, slot_at, empty_shelf, put_shelf, join_shelf}
+use Rattle.shelf.specs.Shelves.{Slot, blank, holding, slot_at, empty_shelf, put_shelf, join_shelf}
 use Rattle.shelf.specs.History.{Tidy}
 use Rattle.shelf.proofs.Slots.{one_of}
 use Rattle.shelf.proofs.Laws.{shelf, shelf-join, tidy-empty, tidy-put, tidy-join, put_same, put_other, join-at}
@@ -34,11 +35,8 @@ use Rattle.shelf_octets.proofs.Years.{year-small, raw-natural, year-back}
 
 pub slot-length : (s : Slot) → length (octets_of_slot s) ≡ 41
 unfolding octets_of_slot octets_of_card digits part
-slot-length s = by-held s.held
-  where
-    by-held : (t : Bool) → length (cond t (1 ∷ octets_of_card s.card) (replicate 41 0)) ≡ 41
-    by-held true = refl
-    by-held false = refl
+slot-length None = refl
+slot-length (Some c) = refl
 
 -- so many slots from one on
 abbrev octets_from : Shelf → ℕ → ℕ → List ℕ
@@ -63,7 +61,7 @@ written_over o s long e =
 -- ---- the empty shelf
 
 empty-from : (slot more : ℕ) → slot + more ≤ 64 → octets_from empty_shelf slot more ≡ replicate (41 * more) 0
-unfolding in_turn octets_of_slot blank
+unfolding in_turn octets_of_slot
 empty-from slot zero h = refl
 empty-from slot (suc more) h =
     let here : slot_at empty_shelf slot ≡ blank = get_or-replicate 64 slot blank blank (omega arith) in
@@ -92,45 +90,34 @@ slot_of (suc more) (suc n) o h =
     slot_of more n (drop 41 o) (le_of_suc-le-suc h)
     ∙ ap (λ (s : List ℕ). slot_in (take 41 s)) (drop-drop (41 * n) 41 o ∙ ap (λ (k : ℕ). drop k o) further)
 
--- what holds of the blank slot and of each that octets say holds of every slot of theirs
-each-slot : (P : List ℕ → Type 0) (Q : Slot → Type 0) → ((o : List ℕ) → P o → P (take 41 o)) → ((o : List ℕ) → P o → P (drop 41 o))
-    → ((o : List ℕ) → P o → Q (slot_in o)) → Q blank → (more n : ℕ) (o : List ℕ) → P o → Q (get_or (slots_in more o) n blank)
-unfolding slots_in
-each-slot P Q front behind one none zero n o p = none
-each-slot P Q front behind one none (suc more) zero o p = one (take 41 o) (front o p)
-each-slot P Q front behind one none (suc more) (suc n) o p = each-slot P Q front behind one none more n (drop 41 o) (behind o p)
-
--- a slot that octets say is blank, or holds the card that they say
-one-slot : (Q : Slot → Type 0) (o : List ℕ) → Q blank → Q (holding (card_in o)) → Q (slot_in o)
-unfolding slot_in
-one-slot Q o none some = by_first (eqb (be_at o 1 1) 1)
-  where
-    by_first : (t : Bool) → Q (cond t (holding (card_in o)) blank)
-    by_first true = some
-    by_first false = none
+-- and past the last there is none
+pub slot_past : (o : List ℕ) (n : ℕ) → 63 < n → blank ≡ slot_at (shelf_in o) n
+slot_past o n h = sym (get_or-eq_default (slots_in 64 o) blank {n = n} (omega (arith, slots_length 64 o)))
 
 pub tidy-in : (o : List ℕ) → Tidy (shelf_in o)
-tidy-in o =
-    record {
-      long = slots_length 64 o;
-      clean = λ n h. each-slot (λ _. Unit {0}) (λ s. s.held ≡ false → s ≡ blank) (λ _ _. tt) (λ _ _. tt)
-          (λ t _. one-slot (λ s. s.held ≡ false → s ≡ blank) t (λ _. refl) (λ e. absurd (true≢false e))) (λ _. refl) 64 n o tt;
-    }
+tidy-in o = record { long = slots_length 64 o }
 
-blank-held : Held blank.card
-unfolding blank
-blank-held = record { year = omega arith; issue = omega arith; product = refl }
+-- what a slot of such a shelf holds
+abbrev Stores : Slot → Type 0
+Stores s = IfSome s Held
 
 card-held : (o : List ℕ) → AllOctets o → Held (card_in o)
 unfolding card_in
 card-held o a = record { year = year-small (be_at o 2 4) (be_at-below o 2 4 a); issue = be_at-below o 11 4 a; product = part_length o 15 27 }
 
+held-in : (o : List ℕ) → AllOctets o → IfSome (slot_in o) Held
+unfolding slot_in
+held-in o a = by_first (eqb (be_at o 1 1) 1)
+  where
+    by_first : (t : Bool) → IfSome (cond t (holding (card_in o)) blank) Held
+    by_first true = card-held o a
+    by_first false = tt
+
 pub stored-in : (o : List ℕ) → AllOctets o → Stored (shelf_in o)
 stored-in o a =
     record {
       tidy = tidy-in o;
-      cards = λ n h. each-slot AllOctets (λ s. Held s.card) (λ t. take-octets 41 t) (λ t. drop-octets 41 t)
-          (λ t b. one-slot (λ s. Held s.card) t blank-held (card-held t b)) blank-held 64 n o a;
+      cards = λ n h. subst⁻¹ Stores (slot_of 64 n o h) (held-in _ (take-octets 41 _ (drop-octets (41 * n) o a)));
     }
 
 -- ---- octets in which no slot is held
@@ -160,25 +147,23 @@ pub stored-empty : Stored empty_shelf
 stored-empty =
     record {
       tidy = tidy-empty;
-      cards = λ n h. subst⁻¹ (λ (s : Slot). Held s.card) (get_or-replicate 64 n blank blank h) blank-held;
+      cards = λ n h. subst⁻¹ Stores (get_or-replicate 64 n blank blank h) tt;
     }
 
 pub stored-put : (s : Shelf) (n : ℕ) (c : Card) → Stored s → Held c → Stored (put_shelf s n c)
 stored-put s n c t x = record { tidy = tidy-put s n c t.tidy; cards = λ k h. by-slot k h (ℕ_discrete k n) }
   where
-    by-slot : (k : ℕ) → k < 64 → Dec (k ≡ n) → Held (slot_at (put_shelf s n c) k).card
+    by-slot : (k : ℕ) → k < 64 → Dec (k ≡ n) → Stores (slot_at (put_shelf s n c) k)
     by-slot k h (yes e) =
-        subst⁻¹ (λ (m : ℕ). Held (slot_at (put_shelf s n c) m).card) e
-        (subst⁻¹ (λ (z : Slot). Held z.card) (put_same s n c t.tidy.long (omega arith))
-        (one_of (λ z. Held z.card) (slot_at s n) (holding c) (t.cards n (omega arith)) x))
-    by-slot k h (no d) = subst⁻¹ (λ (z : Slot). Held z.card) (put_other s n k c d) (t.cards k h)
+        subst⁻¹ (λ (m : ℕ). Stores (slot_at (put_shelf s n c) m)) e
+        (subst⁻¹ Stores (put_same s n c t.tidy.long (omega arith)) (one_of Stores (slot_at s n) (holding c) (t.cards n (omega arith)) x))
+    by-slot k h (no d) = subst⁻¹ Stores (put_other s n k c d) (t.cards k h)
 
 pub stored-join : (a b : Shelf) → Stored a → Stored b → Stored (join_shelf a b)
 stored-join a b s t =
     record {
       tidy = tidy-join a b s.tidy t.tidy;
-      cards = λ n h. subst⁻¹ (λ (z : Slot). Held z.card) (join-at a b n s.tidy.long t.tidy.long h)
-          (one_of (λ z. Held z.card) (slot_at a n) (slot_at b n) (s.cards n h) (t.cards n h));
+      cards = λ n h. subst⁻¹ Stores (join-at a b n s.tidy.long t.tidy.long h) (one_of Stores (slot_at a n) (slot_at b n) (s.cards n h) (t.cards n h));
     }
 
 -- ---- read back
@@ -208,13 +193,10 @@ card-back c h =
       product = (part-behind (front c ++ digits 4 c.issue) product 1 27 (omega arith) ∙ last ∙ all) i;
     }
 
-slot-back : (s : Slot) → (s.held ≡ false → s ≡ blank) → Held s.card → slot_in (octets_of_slot s) ≡ s
+slot-back : (s : Slot) → Stores s → slot_in (octets_of_slot s) ≡ s
 unfolding slot_in octets_of_slot be_at part be
-slot-back s clean h = by-held s.held refl
-  where
-    by-held : (t : Bool) → s.held ≡ t → slot_in (cond t (1 ∷ octets_of_card s.card) (replicate 41 0)) ≡ s
-    by-held true e = λ i. record { held = sym e i; card = card-back s.card h i }
-    by-held false e = sym (clean e)
+slot-back None h = refl
+slot-back (Some c) h = ap holding (card-back c h)
 
 slots-back : (s : Shelf) → Stored s → (slot more : ℕ) → slot + more ≤ 64 → slots_in more (octets_from s slot more) ≡ take more (drop slot s.slots)
 unfolding slots_in in_turn
@@ -223,7 +205,7 @@ slots-back s t slot (suc more) h =
     let x = slot_at s slot in
     let rest = octets_from s (suc slot) more in
     let one : slot_in (take 41 (octets_of_slot x ++ rest)) ≡ x =
-    ap slot_in (take_at (octets_of_slot x) rest 41 (slot-length x)) ∙ slot-back x (t.tidy.clean slot (omega arith)) (t.cards slot (omega arith)) in
+    ap slot_in (take_at (octets_of_slot x) rest 41 (slot-length x)) ∙ slot-back x (t.cards slot (omega arith)) in
     let others : slots_in more (drop 41 (octets_of_slot x ++ rest)) ≡ take more (drop (suc slot) s.slots) =
     ap (slots_in more) (drop_at (octets_of_slot x) rest 41 (slot-length x))
     ∙ slots-back s t (suc slot) more (omega arith) in
@@ -254,3 +236,14 @@ join-idempotent a = ap as_octets (shelf-join.idem (shelf_in a))
 
 pub join-same : (a : List ℕ) → AllOctets a → shelf_in (join_octets a a) ≡ shelf_in a
 join-same a p = join-read a a p p ∙ shelf-join.idem (shelf_in a)
+
+-- ---- a number's octets as std has them
+
+pub octets_of_number : (n : ℕ) → n < 2 ^ 32 → to_be_bytes w32 n ≡ digits 4 n
+unfolding digits
+octets_of_number n h =
+    let a : n / 16777216 % 256 ≡ n / 16777216 = omega arith in
+    let b : n / 65536 % 256 ≡ n % 16777216 / 65536 = omega arith in
+    let c : n / 256 % 256 ≡ n % 16777216 % 65536 / 256 = omega arith in
+    let d : n % 256 ≡ n % 16777216 % 65536 % 256 / 1 = omega arith in
+    λ i. a i ∷ b i ∷ c i ∷ d i ∷ []

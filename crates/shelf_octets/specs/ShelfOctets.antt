@@ -2,14 +2,13 @@
 -- empty, and then all of it is; else 1. Octets 2-5 are the real year + 2^31, 6 to 10 month, day, hour, minute, second, 11-14 the issue,
 -- 15-41 octets 8-34 of section 4. Whatever octets there are read as a shelf, and an octet that is not there reads as 0.
 -- Assumes nothing.
-use Rattle.std.specs.Prelude.{ℕ, zero, suc, ◌^◌, ◌<◌, ◌≡◌, cond, List, [], ◌∷◌, ◌++◌, eqb, ℤ, pos, nat_abs, ◌+ℤ◌, ◌-ℤ◌, length, take, drop, replicate}
+use Rattle.std.specs.Prelude.{ℕ, zero, suc, ◌^◌, ◌<◌, ◌≡◌, cond, List, [], ◌∷◌, ◌++◌, eqb, ℤ, pos, nat_abs, ◌+ℤ◌, ◌-ℤ◌, length, take, drop, replicate, Some, None, IfSome}
 use Rattle.std.specs.Int.Signed.{mag}
 use Rattle.octets.specs.Octets.{be_at, part, digits}
 use Rattle.lent.specs.Rows.{in_turn}
 use Rattle.card.specs.declared.Card.{Card}
-use Rattle.shelf.specs.declared.Slot.{Slot}
 use Rattle.shelf.specs.declared.Shelf.{Shelf}
-use Rattle.shelf.specs.Shelves.{blank, holding, slot_at, join_shelf}
+use Rattle.shelf.specs.Shelves.{Slot, blank, holding, slot_at, join_shelf}
 use Rattle.shelf.specs.History.{Tidy}
 
 -- 2^31 makes every year of 32 bits a number of four octets
@@ -54,7 +53,8 @@ octets_of_card c =
     ++ (c.month ∷ c.day ∷ c.hour ∷ c.minute ∷ c.second ∷ digits 4 c.issue ++ part c.product 1 27)
 
 unfoldable pub octets_of_slot : Slot → List ℕ
-octets_of_slot s = cond s.held (1 ∷ octets_of_card s.card) (replicate 41 0)
+octets_of_slot None = replicate 41 0
+octets_of_slot (Some c) = 1 ∷ octets_of_card c
 
 -- those of its 64 slots
 abbrev pub as_octets : Shelf → List ℕ
@@ -75,4 +75,4 @@ pub record Held (c : Card) : Type 0 where
 -- a shelf as its functions make it, of such cards
 pub record Stored (s : Shelf) : Type 0 where
   pub tidy : Tidy s
-  pub cards : (n : ℕ) → n < 64 → Held (slot_at s n).card
+  pub cards : (n : ℕ) → n < 64 → IfSome (slot_at s n) Held

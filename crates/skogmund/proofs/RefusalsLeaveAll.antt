@@ -7,6 +7,8 @@ use mathlib.Core.List.{List, [], ◌∷◌}
 use lib.Dec.{eqb, ltb, leb}
 use lib.IntN.{ℤ}
 use lib.ListN.{length, drop}
+use Rattle.std.specs.Prelude.{Result, Ok, Err}
+use Rattle.layout.specs.declared.Refusal.{Refusal}
 use Rattle.layout.specs.Outcomes.{Outcome, refused, read}
 use Rattle.layout.proofs.Outcomes.{either}
 use Rattle.unpacking.specs.Packed.{unpacked}
@@ -14,11 +16,10 @@ use Rattle.packing.specs.Section5.{values_at, bits_at}
 use Rattle.packing.specs.Unpacking.{unpack_outcome, row_by, row_after}
 use Rattle.shelf.specs.declared.Shelf.{Shelf}
 use Rattle.shelf_octets.specs.ShelfOctets.{shelf_in}
-use Rattle.filing.specs.declared.Answer.{Answer}
-use Rattle.filing.specs.declared.Answer.TheVariants.{Kept, Passed, Refused as refused_field}
+use Rattle.filing.specs.declared.Change.{Change}
+use Rattle.filing.specs.declared.Change.TheVariants.{Kept, Passed}
 use Rattle.filing.specs.Filing.{filed_of, issue_from}
-use Rattle.queue.specs.declared.QueueAnswer.{QueueAnswer}
-use Rattle.queue.specs.declared.QueueAnswer.TheVariants.{Filed as filed_all, Refused as refused_all}
+use Rattle.queue.specs.declared.Counts.{Counts}
 use Rattle.queue.specs.Queues.{queue_filed}
 use Rattle.message.specs.Messages.{read_message}
 use Rattle.lent.specs.Lent.{done, Untouched}
@@ -81,15 +82,15 @@ field-leaves s slot stored s1 s3 s4 s5 s7 places =
     let made = filed_of (shelf_in s) slot (issue_from stored) s1 s3 s4 s5 s7 in
     either (Untouched 0 (s, places)) (ltb 4294967296 stored) (λ h. refl) (by made.shelf made.answer)
   where
-    by : (after : Shelf) (x : Answer) → Untouched 0 (s, places) (field_kept s places after x)
-    by after (refused_field x) h = refl
-    by after Kept h = keep-leaves s places after (1 ∷ []) h
-    by after Passed h = keep-leaves s places after (0 ∷ []) h
+    by : (after : Shelf) (x : Result Change Refusal) → Untouched 0 (s, places) (field_kept s places after x)
+    by after (Err x) h = refl
+    by after (Ok Kept) h = keep-leaves s places after (1 ∷ []) h
+    by after (Ok Passed) h = keep-leaves s places after (0 ∷ []) h
 
 pub queue-leaves : (s q places : List ℕ) → Untouched 0 (s, places) (filed_queue s q places)
 unfolding filed_queue queue_kept
 queue-leaves s q places = by (queue_filed (shelf_in s) q).shelf (queue_filed (shelf_in s) q).answer
   where
-    by : (after : Shelf) (x : QueueAnswer) → Untouched 0 (s, places) (queue_kept s places after x)
-    by after (refused_all x) h = refl
-    by after (filed_all n) h = keep-leaves s places after (n.kept ∷ n.passed ∷ n.refused ∷ []) h
+    by : (after : Shelf) (x : Result Counts Refusal) → Untouched 0 (s, places) (queue_kept s places after x)
+    by after (Err x) h = refl
+    by after (Ok n) h = keep-leaves s places after (n.kept ∷ n.passed ∷ n.refused ∷ []) h

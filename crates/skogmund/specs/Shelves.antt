@@ -1,19 +1,18 @@
 -- What the entries on a shelf's octets answer, and what is then in the lent buffers. A refusal leaves each as it was.
 -- Assumes nothing.
-use Rattle.std.specs.Prelude.{ℕ, ◌≤◌, ◌≡◌, Bool, cond, ◌&&◌, List, [], ◌∷◌, map, eqb, ltb, leb, ℤ, pos, length, replicate}
+use Rattle.std.specs.Prelude.{ℕ, ◌≤◌, ◌≡◌, Bool, cond, ◌&&◌, List, [], ◌∷◌, map, eqb, ltb, leb, ℤ, pos, length, replicate, Some, None, Result, Ok, Err}
 use Rattle.octets.specs.Octets.{part}
 use Rattle.lent.specs.Lent.{Done, done, done_both, over, with_count, if_room}
 use Rattle.card.specs.declared.Card.{Card}
-use Rattle.shelf.specs.declared.Slot.{Slot}
 use Rattle.shelf.specs.declared.Shelf.{Shelf}
-use Rattle.shelf.specs.Shelves.{slot_at}
+use Rattle.shelf.specs.Shelves.{Slot, slot_at}
 use Rattle.shelf_octets.specs.ShelfOctets.{shelf_in, as_octets, join_octets}
-use Rattle.filing.specs.declared.Answer.{Answer}
-use Rattle.filing.specs.declared.Answer.TheVariants.{Kept, Passed, Refused as refused_field}
+use Rattle.layout.specs.declared.Refusal.{Refusal}
+use Rattle.filing.specs.declared.Change.{Change}
+use Rattle.filing.specs.declared.Change.TheVariants.{Kept, Passed}
 use Rattle.filing.specs.Filing.{filed_of, issue_from}
 use Rattle.filing.specs.Accepted.{FollowsFiling}
-use Rattle.queue.specs.declared.QueueAnswer.{QueueAnswer}
-use Rattle.queue.specs.declared.QueueAnswer.TheVariants.{Filed as filed_all, Refused as refused_all}
+use Rattle.queue.specs.declared.Counts.{Counts}
 use Rattle.queue.specs.Queues.{queue_filed}
 use Rattle.skogmund.specs.Entries.{code, code_of, no_room}
 
@@ -36,10 +35,10 @@ unfoldable pub kept_in : List ℕ → List ℕ → Shelf → List ℕ → Done �
 kept_in s places after ns = if_room 0 no_room (is_shelf s && leb (length ns) (length places)) (as_octets after, over places ns) (s, places)
 
 -- a field is refused, or whether its slot changed is kept with the shelf
-unfoldable pub field_kept : List ℕ → List ℕ → Shelf → Answer → Done ℕ (List ℕ × List ℕ)
-field_kept s places after (refused_field x) = done_both (code_of x) s places
-field_kept s places after Kept = kept_in s places after (1 ∷ [])
-field_kept s places after Passed = kept_in s places after (0 ∷ [])
+unfoldable pub field_kept : List ℕ → List ℕ → Shelf → Result Change Refusal → Done ℕ (List ℕ × List ℕ)
+field_kept s places after (Err x) = done_both (code_of x) s places
+field_kept s places after (Ok Kept) = kept_in s places after (1 ∷ [])
+field_kept s places after (Ok Passed) = kept_in s places after (0 ∷ [])
 
 -- 19 comes before all that filing refuses
 unfoldable pub filed_field : List ℕ → ℕ → ℕ → List ℕ → List ℕ → List ℕ → List ℕ → List ℕ → List ℕ → Done ℕ (List ℕ × List ℕ)
@@ -50,9 +49,9 @@ filed_field s slot stored s1 s3 s4 s5 s7 places =
     (filed_of (shelf_in s) slot (issue_from stored) s1 s3 s4 s5 s7).answer)
 
 -- a queue is refused, or its three counts are kept with the shelf
-unfoldable pub queue_kept : List ℕ → List ℕ → Shelf → QueueAnswer → Done ℕ (List ℕ × List ℕ)
-queue_kept s places after (refused_all x) = done_both (code_of x) s places
-queue_kept s places after (filed_all n) = kept_in s places after (n.kept ∷ n.passed ∷ n.refused ∷ [])
+unfoldable pub queue_kept : List ℕ → List ℕ → Shelf → Result Counts Refusal → Done ℕ (List ℕ × List ℕ)
+queue_kept s places after (Err x) = done_both (code_of x) s places
+queue_kept s places after (Ok n) = kept_in s places after (n.kept ∷ n.passed ∷ n.refused ∷ [])
 
 unfoldable pub filed_queue : List ℕ → List ℕ → List ℕ → Done ℕ (List ℕ × List ℕ)
 filed_queue s q places = queue_kept s places (queue_filed (shelf_in s) q).shelf (queue_filed (shelf_in s) q).answer
@@ -73,7 +72,8 @@ card_values c =
 
 -- none, of an empty slot
 unfoldable pub slot_numbers : Slot → List ℤ
-slot_numbers x = cond x.held (card_values x.card) []
+slot_numbers None = []
+slot_numbers (Some c) = card_values c
 
 -- 16 comes before 18
 unfoldable pub slot_shown : List ℕ → ℕ → List ℤ → Done ℕ (List ℤ)
@@ -92,12 +92,12 @@ abbrev pub Files : List ℕ → ℕ → ℕ → List ℕ → List ℕ → List �
 Files s slot stored s1 s3 s4 s5 s7 places = (stored ≤ 4294967296) × FollowsFiling slot s1 s3 s4 s5 s7 × Room s places 1
 
 -- what is then in the places: 1 for a field that is kept, and 0 for one that is passed
-abbrev pub FieldTold : Answer → List ℕ → List ℕ → Type 0
-FieldTold Kept places later = later ≡ over places (1 ∷ [])
-FieldTold Passed places later = later ≡ over places (0 ∷ [])
-FieldTold (refused_field x) places later = ⊥
+abbrev pub FieldTold : Result Change Refusal → List ℕ → List ℕ → Type 0
+FieldTold (Ok Kept) places later = later ≡ over places (1 ∷ [])
+FieldTold (Ok Passed) places later = later ≡ over places (0 ∷ [])
+FieldTold (Err x) places later = ⊥
 
 -- and of a queue how many records were kept, how many passed, how many refused
-abbrev pub QueueTold : QueueAnswer → List ℕ → List ℕ → Type 0
-QueueTold (filed_all n) places later = later ≡ over places (n.kept ∷ n.passed ∷ n.refused ∷ [])
-QueueTold (refused_all x) places later = ⊥
+abbrev pub QueueTold : Result Counts Refusal → List ℕ → List ℕ → Type 0
+QueueTold (Ok n) places later = later ≡ over places (n.kept ∷ n.passed ∷ n.refused ∷ [])
+QueueTold (Err x) places later = ⊥

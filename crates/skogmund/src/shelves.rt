@@ -5,17 +5,14 @@ ghost use Rattle.octets.specs.Octets.{part};
 ghost use Rattle.lent.specs.Lent.{done, done_both, with_count};
 ghost use Rattle.skogmund.specs.Shelves.{emptied, joined, kept_in, filed_field, filed_queue, slot_numbers, slot_shown};
 
-use filing::{Answer, StoredIssue};
-use queue::QueueAnswer;
-use shelf::{Shelf, Slot};
+use card::Card;
+use filing::Change;
+use shelf::Shelf;
 
 const SHELF: usize = 2624;
 
 // 16: no shelf has the slot.
 const NO_SLOT: u64 = 16 * 0x100_0000_0000;
-
-// 19: issue + 1 is no number of a queue.
-const MALFORMED: u64 = 19 * 0x100_0000_0000;
 
 // The empty shelf.
 pub fn skogmund_empty(shelf: &mut [u8]) -> u64
@@ -40,7 +37,7 @@ pub fn skogmund_join(shelf: &mut [u8], other: &[u8]) -> u64
     }
     let ours = shelf_octets::read(shelf);
     let theirs = shelf_octets::read(other);
-    shelf_octets::write(shelf, shelf::join(ours, theirs));
+    shelf_octets::write(shelf, ours.join(theirs));
     0
 }
 
@@ -58,8 +55,9 @@ pub fn skogmund_file<'s, 'a, 'k>(
 ) -> u64
     ensures { done_both result shelf.new kept.new ≡ filed_field shelf.old slot issue_plus_1 section1.now section3.now section4.now section5.now section7.now kept.old }
 {
-    let StoredIssue::Is(issue) = filing::issue_from(issue_plus_1) else {
-        return MALFORMED;
+    let issue = match filing::issue_from(issue_plus_1) {
+        Ok(issue) => issue,
+        Err(x) => return crate::code(x),
     };
     let done = filing::file_by_value(
         shelf_octets::read(shelf),
@@ -71,12 +69,10 @@ pub fn skogmund_file<'s, 'a, 'k>(
         section5,
         section7,
     );
-    let after = done.shelf;
-    let answer = done.answer;
-    match answer {
-        Answer::Kept => keep(shelf, kept, after, &[1]),
-        Answer::Passed => keep(shelf, kept, after, &[0]),
-        Answer::Refused(x) => crate::code(x),
+    match done.answer {
+        Ok(Change::Kept) => keep(shelf, kept, done.shelf, &[1]),
+        Ok(Change::Passed) => keep(shelf, kept, done.shelf, &[0]),
+        Err(x) => crate::code(x),
     }
 }
 
@@ -99,16 +95,14 @@ pub fn skogmund_file_queue(shelf: &mut [u8], queue: &[u8], counts: &mut [u64]) -
     ensures { done_both result shelf.new counts.new ≡ filed_queue shelf.old queue.now counts.old }
 {
     let done = queue::file(shelf_octets::read(shelf), queue);
-    let after = done.shelf;
-    let answer = done.answer;
-    match answer {
-        QueueAnswer::Filed(n) => keep(
+    match done.answer {
+        Ok(n) => keep(
             shelf,
             counts,
-            after,
+            done.shelf,
             &[n.kept as u64, n.passed as u64, n.refused as u64],
         ),
-        QueueAnswer::Refused(x) => crate::code(x),
+        Err(x) => crate::code(x),
     }
 }
 
@@ -130,25 +124,23 @@ pub fn skogmund_slot(shelf: &[u8], slot: u64, values: &mut [i64]) -> u64
     0
 }
 
-fn show_slot(values: &mut [i64], slot: Slot)
+fn show_slot(values: &mut [i64], slot: Option<Card>)
     requires { 64 ≤ length values.old }
     ensures { values.new ≡ with_count (slot_numbers slot) values.old }
 {
-    if !slot.held {
+    let Some(card) = slot else {
         values[0] = 0;
         return;
-    }
-    let card = slot.card;
-    let product = card.product;
+    };
     values[0] = 34;
-    values[1] = card.year as i64;
-    values[2] = card.month as i64;
-    values[3] = card.day as i64;
-    values[4] = card.hour as i64;
-    values[5] = card.minute as i64;
-    values[6] = card.second as i64;
-    values[7] = card.issue as i64;
-    show_product(values, product);
+    values[1] = i64::from(card.year);
+    values[2] = i64::from(card.month);
+    values[3] = i64::from(card.day);
+    values[4] = i64::from(card.hour);
+    values[5] = i64::from(card.minute);
+    values[6] = i64::from(card.second);
+    values[7] = i64::from(card.issue);
+    show_product(values, card.product);
 }
 
 fn show_product(values: &mut [i64], product: [u8; 27])

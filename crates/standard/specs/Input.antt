@@ -1,11 +1,14 @@
--- What may be read from standard input.
+-- What may be read from standard input, and what a program makes of it.
 -- Assumes nothing.
-use Rattle.std.specs.Prelude.{List, ℕ}
+use Rattle.std.specs.Prelude.{◌≡◌, List, ℕ, Result, Ok, Err, take}
+use Rattle.std.specs.declared.io.Error.{Error}
 use Rattle.io.specs.Counts.{IsPrefixLen}
-use Rattle.standard.specs.declared.Input.{Input}
-use Rattle.standard.specs.declared.Input.TheVariants.{Octets, Failed}
 
 -- no more octets were read than the buffer has; which ones they are, and what a read that failed left there, is the system's
-abbrev pub Holds : Input → List ℕ → Type 0
-Holds (Octets n) buffer = IsPrefixLen n buffer
-Holds (Failed why) buffer = Unit
+abbrev pub Holds : Result ℕ Error → List ℕ → Type 0
+Holds (Ok n) buffer = IsPrefixLen n buffer
+Holds (Err why) buffer = Unit
+
+-- the text is that of octets at the start of the buffer, as many as were read
+abbrev pub IsOfRead : (List ℕ → List ℕ) → List ℕ → List ℕ → Type 0
+IsOfRead text_of buffer text = (n : ℕ) × IsPrefixLen n buffer × (text ≡ text_of (take n buffer))

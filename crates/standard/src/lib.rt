@@ -1,32 +1,60 @@
-// Standard input, read whole, and standard output and standard error. Nothing is known of what is read.
+// Standard input, read whole, and standard output and standard error, and programs that print one text of their input. Nothing is known of what
+// is read.
 #![tactic(auto)]
 
-ghost use Rattle.standard.specs.Input.{Holds};
+ghost use Rattle.std.specs.Prelude.{◌≡◌, ℕ, List, IfOk};
+ghost use Rattle.standard.specs.Input.{Holds, IsOfRead};
 
 use std::io;
 use std::io::Read;
 
-// How many octets were read, at the start of the buffer, or why a read failed.
-#[derive(Clone, Copy)]
-pub enum Input {
-    Octets(usize),
-    Failed(io::Error),
+// A program: which text it prints of an input, written in a room that is never too small for it.
+pub trait Program<const ROOM: usize> {
+    ghost text_of: { List ℕ → List ℕ };
+
+    fn whole_text<'a>(input: &[u8], room: &'a mut [u8; ROOM]) -> &'a [u8]
+        ensures { result.now ≡ text_of input.now };
 }
 
-// Reads until the input ends or the buffer is full. A read that fails is told from the end of the input.
-pub fn read_all(rt: &HostRuntime, buf: &mut [u8]) -> Input
+// Runs it: where a read fails nothing is printed, and standard error says why.
+pub fn run<P: Program<ROOM>, const ROOM: usize>(
+    rt: &HostRuntime,
+    buf: &mut [u8],
+    room: &mut [u8; ROOM],
+) {
+    match answer::<P, ROOM>(rt, buf, room) {
+        Ok(text) => print(rt, text),
+        Err(why) => read_failed(rt, why),
+    }
+}
+
+// The text of what is read.
+fn answer<'a, P: Program<ROOM>, const ROOM: usize>(
+    rt: &HostRuntime,
+    buf: &mut [u8],
+    room: &'a mut [u8; ROOM],
+) -> io::Result<&'a [u8]>
+    ensures { IfOk result (λ text. IsOfRead P.text_of buf.new text.now) }
+{
+    let n = read_all(rt, buf)?;
+    Ok(P::whole_text(&buf[..n], room))
+}
+
+// Reads until the input ends or the buffer is full: how many octets, at the start of the buffer, or why a read failed. A read that fails is told
+// from the end of the input. A `while`, since each read says for itself how far it came.
+pub fn read_all(rt: &HostRuntime, buf: &mut [u8]) -> io::Result<usize>
     ensures { Holds result buf.new }
 {
     let mut stdin = rt.stdin();
     let mut done = 0;
     while done < buf.len() {
-        match stdin.read(&mut buf[done..]) {
-            Ok(0) => return Input::Octets(done),
-            Ok(more) => done += more,
-            Err(why) => return Input::Failed(why),
+        let more = stdin.read(&mut buf[done..])?;
+        if more == 0 {
+            break;
         }
+        done += more;
     }
-    Input::Octets(done)
+    Ok(done)
 }
 
 // What can't be said on standard error either is let go, here and in `print`.

@@ -1,6 +1,5 @@
 pub mod Decimal
 pub mod Lengths
 pub mod Digits
-pub mod Sizes
 pub mod Examples
 pub mod Entries

@@ -1,13 +1,10 @@
--- `field_lines`: field by field, what is left to write stands behind what is written.
+-- `field_lines`: the fields that the loop has passed are written.
 -- Assumes nothing.
-use Prim.Native.Nat.{◌-◌}
-use Rattle.lent.specs.Written.{written}
-use Rattle.lent.proofs.Written.{Turns}
+use mathlib.Core.Path.{◌≡◌}
+use Rattle.lent.specs.Rows.{in_turn}
+use Rattle.lent.specs.Writers.{writes}
 use Rattle.contents.specs.Contents.{line_of}
 use Rattle.contents.proofs.field_lines.Given as goal
 
 abbrev pub invariant-loop-k : goal.invariant-loop-k
-invariant-loop-k l = Turns (written l.initial.out l.at) (line_of l.message l.cut) l.cut.count (written l.out l.next) l.k
-
-abbrev pub decreases-loop-k : goal.decreases-loop-k
-decreases-loop-k l = l.cut.count - l.k
+invariant-loop-k l = l.out ≡ writes l.initial.out (in_turn (line_of l.message l.cut) 0 l.k)

@@ -27,25 +27,25 @@ file_next-progress-requires c =
 
 pub overflow_add-at : goal.overflow_add-at
 overflow_add-at c =
-    let on : RecordAt c.args.queue.now c.loop-at.at c.in-Whole.head = record-at c.args.queue.now c.loop-at.at _ c.loop-at.invariant.inside (sym c.record_of.ensures ∙ c.in-Whole.is) in
+    let on : RecordAt c.args.queue.now c.loop-at.at c.in-Some.head = record-at c.args.queue.now c.loop-at.at _ c.loop-at.invariant.inside (sym c.record_of.ensures ∙ c.in-Some.is) in
     omega (arith, (on).inside, c.well_formed)
 
 pub loop-at-smaller : goal.loop-at-smaller
 loop-at-smaller c =
-    let on : RecordAt c.args.queue.now c.loop-at.at c.in-Whole.head = record-at c.args.queue.now c.loop-at.at _ c.loop-at.invariant.inside (sym c.record_of.ensures ∙ c.in-Whole.is) in
+    let on : RecordAt c.args.queue.now c.loop-at.at c.in-Some.head = record-at c.args.queue.now c.loop-at.at _ c.loop-at.invariant.inside (sym c.record_of.ensures ∙ c.in-Some.is) in
     omega (arith, (on).more, (on).inside)
 
 pub loop-at-preserved : goal.loop-at-preserved
 unfolding records_filed
 loop-at-preserved c =
-    let on : RecordAt c.args.queue.now c.loop-at.at c.in-Whole.head = record-at c.args.queue.now c.loop-at.at _ c.loop-at.invariant.inside (sym c.record_of.ensures ∙ c.in-Whole.is) in
+    let on : RecordAt c.args.queue.now c.loop-at.at c.in-Some.head = record-at c.args.queue.now c.loop-at.at _ c.loop-at.invariant.inside (sym c.record_of.ensures ∙ c.in-Some.is) in
     let q = c.args.queue.now in
-    let sent = record_in (rest_at q c.loop-at.at) c.in-Whole.head in
+    let sent = record_in (rest_at q c.loop-at.at) c.in-Some.head in
     let filed = record_filed c.loop-at.progress.shelf sent in
     record {
       inside = (on).inside;
       few = omega (arith, ap (λ (p : Progress). three_together p.counts) c.file_next-progress.ensures, one-more c.loop-at.progress.counts filed.answer, c.loop-at.invariant.few, (on).more);
-      so_far = ap (λ (p : Progress). records_filed p (cut_of record_step (drop (c.loop-at.at + c.in-Whole.head.end) q)).items) c.file_next-progress.ensures
+      so_far = ap (λ (p : Progress). records_filed p (cut_of record_step (drop (c.loop-at.at + c.in-Some.head.end) q)).items) c.file_next-progress.ensures
           ∙ sym (ap (λ (x : Cut Sent). records_filed c.loop-at.progress x.items) (on).cut)
           ∙ c.loop-at.invariant.so_far;
     }

@@ -17,17 +17,17 @@ returns-in_default c =
 
 pub overflow_add-i : goal.overflow_add-i
 overflow_add-i c =
-    let on : RecordAt c.args.queue.now c.loop-i.i c.in-Whole.head = record-at c.args.queue.now c.loop-i.i _ c.loop-i.invariant.inside (sym c.record_of.ensures ∙ c.in-Whole.is) in
+    let on : RecordAt c.args.queue.now c.loop-i.i c.in-Some.head = record-at c.args.queue.now c.loop-i.i _ c.loop-i.invariant.inside (sym c.record_of.ensures ∙ c.in-Some.is) in
     omega (arith, (on).inside, c.well_formed)
 
 pub loop-i-smaller : goal.loop-i-smaller
 loop-i-smaller c =
-    let on : RecordAt c.args.queue.now c.loop-i.i c.in-Whole.head = record-at c.args.queue.now c.loop-i.i _ c.loop-i.invariant.inside (sym c.record_of.ensures ∙ c.in-Whole.is) in
+    let on : RecordAt c.args.queue.now c.loop-i.i c.in-Some.head = record-at c.args.queue.now c.loop-i.i _ c.loop-i.invariant.inside (sym c.record_of.ensures ∙ c.in-Some.is) in
     omega (arith, (on).more, (on).inside)
 
 pub loop-i-preserved : goal.loop-i-preserved
 loop-i-preserved c =
-    let on : RecordAt c.args.queue.now c.loop-i.i c.in-Whole.head = record-at c.args.queue.now c.loop-i.i _ c.loop-i.invariant.inside (sym c.record_of.ensures ∙ c.in-Whole.is) in
+    let on : RecordAt c.args.queue.now c.loop-i.i c.in-Some.head = record-at c.args.queue.now c.loop-i.i _ c.loop-i.invariant.inside (sym c.record_of.ensures ∙ c.in-Some.is) in
     record {
       inside = (on).inside;
       so_far = sym (ap (λ (x : Cut Sent). x.whole) (on).cut) ∙ c.loop-i.invariant.so_far;

@@ -1,19 +1,12 @@
--- `slot_lines`: slot by slot, what is left to write stands behind what is written.
+-- `slot_lines`: the slots that the loop has passed are written.
 -- Assumes nothing.
-use Prim.Native.Nat.{ℕ, ◌-◌}
-use mathlib.Core.List.{List}
-use Rattle.lent.specs.Written.{written}
-use Rattle.lent.proofs.Written.{Turns}
-use Rattle.shelf.specs.declared.Shelf.{Shelf}
+use mathlib.Core.Path.{◌≡◌}
+use Prim.Native.Nat.{ℕ}
+use Rattle.lent.specs.Rows.{in_turn}
+use Rattle.lent.specs.Writers.{writes}
 use Rattle.shelf.specs.Shelves.{slot_at}
 use Rattle.report.specs.Texts.{slot_line}
 use Rattle.report.proofs.slot_lines.Given as goal
 
-abbrev pub line_of : Shelf → ℕ → List ℕ
-line_of shelf n = slot_line n (slot_at shelf n)
-
 abbrev pub invariant-loop-i : goal.invariant-loop-i
-invariant-loop-i l = Turns (written l.initial.out l.at) (line_of l.shelf) 64 (written l.out l.next) l.i
-
-abbrev pub decreases-loop-i : goal.decreases-loop-i
-decreases-loop-i l = 64 - l.i
+invariant-loop-i l = l.out ≡ writes l.initial.out (in_turn (λ (n : ℕ). slot_line n (slot_at l.shelf n)) 0 l.i)

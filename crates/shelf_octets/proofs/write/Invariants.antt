@@ -1,6 +1,6 @@
 -- `write`: slot by slot, what is left to write stands behind what is written.
 -- Assumes nothing.
-use Prim.Native.Nat.{ℕ, ◌-◌}
+use Prim.Native.Nat.{ℕ}
 use mathlib.Core.List.{List}
 use Rattle.lent.specs.Written.{written}
 use Rattle.lent.proofs.Written.{Turns}
@@ -12,8 +12,5 @@ use Rattle.shelf_octets.proofs.write.Given as goal
 abbrev pub slot-octets : Shelf → ℕ → List ℕ
 slot-octets shelf n = octets_of_slot (slot_at shelf n)
 
-abbrev pub invariant-loop-i : goal.invariant-loop-i
-invariant-loop-i l = Turns (written l.initial.out 0) (slot-octets l.shelf) 64 (written l.out l.next) l.i
-
-abbrev pub decreases-loop-i : goal.decreases-loop-i
-decreases-loop-i l = 64 - l.i
+abbrev pub invariant-loop-slot : goal.invariant-loop-slot
+invariant-loop-slot l = Turns (written l.initial.out 0) (slot-octets l.fn.shelf) 64 (written l.out l.next) l.slot-index

@@ -3,27 +3,21 @@
 use mathlib.Core.Path.{◌≡◌, sym, ap, ◌∙◌}
 use lib.ListN.{length}
 use borrow.Author.Rules.{rules}
-use mir.Syntax.{w32}
-use mir.ValLaws.{to_z-of_z}
 use Rattle.octets.specs.Octets.{part}
 use Rattle.octets.proofs.Laws.{part-all}
 use Rattle.octets.proofs.Lists.{unmapped}
+use Rattle.octets.proofs.Signs.{kept32}
 use Rattle.lent.specs.Written.{append}
 use Rattle.lent.proofs.Written.{and_then}
 use Rattle.shelf_octets.specs.ShelfOctets.{octets_of_card}
 use Rattle.shelf_octets.proofs.write_card.Goals as goal
-
-pub slice_bounds-octets-end : goal.slice_bounds-octets-end
-slice_bounds-octets-end c =
-    let length-is : length c.args.card.product ≡ 27 = search (rules, unmapped) in
-    sym (length-is)
 
 pub returns : goal.returns
 unfolding octets_of_card
 returns c =
     let length-is : length c.args.card.product ≡ 27 = search (rules, unmapped) in
     let product : part c.args.card.product 1 27 ≡ c.args.card.product = rw (length-is) at (part-all c.args.card.product) in
-    and_then _ _ _ (rw (c.raw_year.ensures, to_z-of_z w32 _ (record { sfits = c.struct_told-1.given.0.1 })) at c.write_number-a.ensures)
+    and_then _ _ _ (rw (c.raw_year.ensures, kept32 c.args.card.year (search rules)) at c.write_number-a.ensures)
     (and_then _ _ _ c.octet-b.ensures
     (and_then _ _ _ c.octet-c.ensures
     (and_then _ _ _ c.octet-d.ensures

@@ -110,7 +110,7 @@ fn of_cases() -> [(String, Vec<u8>); 2] {
         stdin += &format!("{}\n", case.asked.line());
         stdout += &format!("{}\n", case.printed);
     }
-    // What is behind that is not read (`input_buffer` of crates/cases).
+    // What is behind that is not read (`INPUT` of crates/cases).
     assert!(
         stdin.len() <= 3_000_000,
         "crates/cases has no room for all of its cases"

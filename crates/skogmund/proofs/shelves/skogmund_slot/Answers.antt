@@ -2,7 +2,7 @@
 -- Assumes nothing.
 use mathlib.Core.Path.{ap, ◌∙◌}
 use borrow.Author.Tests.{lt-ltb, le-ltb, eq-eqb, ne_eqb, le-leb, lt-leb}
-use Rattle.shelf.specs.declared.Slot.{Slot}
+use Rattle.shelf.specs.Shelves.{Slot}
 use Rattle.lent.specs.Lent.{done, with_count}
 use Rattle.skogmund.specs.Shelves.{slot_numbers, slot_shown}
 use Rattle.skogmund.proofs.shelves.skogmund_slot.Goals as goal

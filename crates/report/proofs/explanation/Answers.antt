@@ -1,9 +1,0 @@
--- `explanation`: the queue is filed to an empty shelf.
--- Assumes nothing.
-use Rattle.report.specs.Texts.{explanation}
-use Rattle.report.proofs.explanation.Goals as goal
-
-pub returns : goal.returns
-unfolding explanation
-returns c =
-    simp (← c.empty.ensures, ← c.file-filed.ensures) c.explain.ensures
