@@ -6,7 +6,7 @@ ghost use Rattle.identification.specs.Section1.{values_in};
 ghost use Rattle.filing.specs.Filing.{filing_of, filed_of, after_put, stored_issue, card_of, foreign_calendar, told};
 
 use card::Card;
-use identification::{CalendarCode, Identification};
+use identification::Identification;
 use layout::Refusal;
 use shelf::{PutDone, Shelf};
 
@@ -70,16 +70,12 @@ fn card_for(
     if 63 < slot {
         return Err(Refusal::of(16, 0));
     }
-    let answer = field::read(section1, section3, section4, section5, section7);
-    let field::Answer::Read(field) = answer else {
-        return Err(field::refusal_of(answer));
-    };
-    let identification = field.identification;
-    if foreign_calendar(identification) {
+    let field = field::read(section1, section3, section4, section5, section7)?;
+    if foreign_calendar(field.identification) {
         return Err(Refusal::of(17, 1));
     }
     let issue = issue.unwrap_or(DEFAULT_ISSUE);
-    Ok(card_of(identification, issue, section4))
+    Ok(card_of(field.identification, issue, section4))
 }
 
 // The trailer's one shelf is lent to the filing call and changed there.
@@ -134,11 +130,7 @@ pub fn issue_from(stored: u64) -> Result<Option<u32>, Refusal>
 fn foreign_calendar(x: Identification) -> bool
     ensures { result ≡ foreign_calendar (values_in x) }
 {
-    let calendar = x.calendar;
-    match calendar {
-        CalendarCode::None => false,
-        CalendarCode::Is(n) => n != 0,
-    }
+    x.calendar.is_some_and(|code| code != 0)
 }
 
 #[tactic(auto, unfolding(crate::specs::Filing::card_of, identification::specs::Section1::values_in, layout::specs::Time::time_in))]
