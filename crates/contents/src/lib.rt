@@ -6,15 +6,15 @@ ghost use Rattle.std.specs.Prelude.{◌≡◌, [], ◌∷◌, ◌++◌, ℕ, ◌
 ghost use Rattle.lent.specs.Written.{written, append, starts_with};
 ghost use Rattle.lent.specs.Writers.{writes};
 ghost use Rattle.identification.specs.Section1.{outcome₁};
+ghost use Rattle.message.specs.Walk.{told};
 ghost use Rattle.message.specs.Messages.{shown_in, field_of};
 ghost use Rattle.message.specs.Places.{LowField};
 ghost use Rattle.text.specs.Text.{decimal, spaced};
 ghost use Rattle.contents.specs.Contents.{time_read, numbers_text, places_text, field_line, field_lines, accepted_text, contents};
 
-use identification::Answer;
 use layout::Span;
 use lent::Writer;
-use message::{Cut, Sections};
+use message::{Fields, Sections};
 
 // Room for a message, and for one octet more than the longest may have, so that a longer one is told.
 pub fn message_buffer() -> [u8; 65537]
@@ -47,77 +47,77 @@ pub fn contents(message: &[u8], out: &mut [u8]) -> usize
     writer.at()
 }
 
-#[tactic(auto, unfolding(crate::specs::Contents::contents, crate::specs::Contents::contents_of))]
 fn tell(out: &mut Writer, message: &[u8])
     ensures { out.new ≡ writes out.old (contents message.now) }
 {
-    let cut = message::read(message);
-    let refusal = cut.refusal;
-    if refusal.number != 0 {
-        text::refused(out, refusal);
-        return;
+    match message::read(message) {
+        Ok(fields) => accepted(out, message, fields),
+        Err(refusal) => text::refused(out, refusal),
     }
-    accepted(out, message, cut);
 }
 
 // An accepted message: the heading, its fields, and how many they are. It is asked that the sections stand where those of a message do, so that
 // the number of a first octet can't wrap; every message keeps that (`field-low`, message/proofs/Views.antt).
-fn accepted(out: &mut Writer, message: &[u8], cut: Cut)
-    requires { (k : ℕ) → LowField (field_of cut k) }
-    ensures { out.new ≡ writes out.old (accepted_text message.now cut) }
+fn accepted(out: &mut Writer, message: &[u8], fields: Fields)
+    requires { (k : ℕ) → LowField (field_of (told (Ok fields)) k) }
+    ensures { out.new ≡ writes out.old (accepted_text message.now (told (Ok fields))) }
 {
     out.octets(
         b"field year month day hour minute second grid product points bits first1 length1 first3 length3 first4 length4 first5 length5 first7 length7\n",
     );
-    field_lines(out, message, cut);
+    field_lines(out, message, fields);
     out.octets(b"fields ");
-    text::number_then(out, cut.count as u64, b'\n');
+    text::number_then(out, fields.count as u64, b'\n');
 }
 
 #[tactic(auto, using(lent::proofs::Writers::no_turn, lent::proofs::Writers::next_turn))]
-fn field_lines(out: &mut Writer, message: &[u8], cut: Cut)
-    requires { (k : ℕ) → LowField (field_of cut k) }
-    ensures { out.new ≡ writes out.old (field_lines message.now cut) }
+fn field_lines(out: &mut Writer, message: &[u8], fields: Fields)
+    requires { (k : ℕ) → LowField (field_of (told (Ok fields)) k) }
+    ensures { out.new ≡ writes out.old (field_lines message.now (told (Ok fields))) }
 {
-    for k in 0..cut.count {
-        field_line(out, k as u64 + 1, message, cut, k);
+    for k in 0..fields.count {
+        field_line(
+            out,
+            k as u64 + 1,
+            message,
+            message::field_of(fields, k),
+        );
     }
 }
 
 // The sections are parts of the message, and nothing is copied.
-
-fn field_line(out: &mut Writer, number: u64, message: &[u8], cut: Cut, k: usize)
-    requires { LowField (field_of cut k) }
-    ensures { out.new ≡ writes out.old (field_line number (shown_in message.now (field_of cut k)) (field_of cut k)) }
+#[tactic(auto, unfolding(crate::specs::Contents::field_line), using(lent::proofs::Writers::and_then))]
+fn field_line(out: &mut Writer, number: u64, message: &[u8], sections: Sections)
+    requires { LowField sections }
+    ensures { out.new ≡ writes out.old (field_line number (shown_in message.now sections) sections) }
 {
-    let section1 = message::section(message, cut, k, 1);
-    let section3 = message::section(message, cut, k, 3);
-    let section4 = message::section(message, cut, k, 4);
-    let section5 = message::section(message, cut, k, 5);
     text::number_then(out, number, b' ');
-    time_text(out, section1);
-    numbers_text(out, section3, section4, section5);
-    places_text(out, message::field_of(cut, k));
+    time_text(out, sections.one.of(message));
+    numbers_text(
+        out,
+        sections.three.of(message),
+        sections.four.of(message),
+        sections.five.of(message),
+    );
+    places_text(out, sections);
 }
 
 // A section 1 that is refused has no time; an accepted message has none such.
-#[tactic(auto, unfolding(crate::specs::Contents::time_read, layout::specs::Time::time_in, identification::specs::Section1::told, identification::specs::Section1::values_in), using(lent::proofs::Writers::no_text))]
+#[tactic(auto, unfolding(crate::specs::Contents::time_read, layout::specs::Time::time_in, identification::specs::Section1::values_in), using(lent::proofs::Writers::no_text))]
 fn time_text(out: &mut Writer, section1: &[u8])
     ensures { out.new ≡ writes out.old (time_read (outcome₁ section1.now)) }
 {
-    let answer = identification::read(section1);
-    let Answer::Read(x) = answer else {
-        return;
-    };
-    text::time(
-        out,
-        x.real_year,
-        x.time.month,
-        x.time.day,
-        x.time.hour,
-        x.time.minute,
-        x.time.second,
-    );
+    if let Ok(x) = identification::read(section1) {
+        text::time(
+            out,
+            x.real_year,
+            x.time.month,
+            x.time.day,
+            x.time.hour,
+            x.time.minute,
+            x.time.second,
+        );
+    }
 }
 
 #[tactic(auto, unfolding(crate::specs::Contents::numbers_text), using(lent::proofs::Writers::and_then))]

@@ -75,6 +75,11 @@ pub data PassedOrListed (table : List Row) : Check → Type 0 where
   passed : PassedOrListed table (Ok tt)
   listed : (x : Refusal) → Listed table x → PassedOrListed table (Err x)
 
+-- so where it is a refusal, that is listed
+pub refusal-is-listed : (table : List Row) (c : Check) → PassedOrListed table c → (x : Refusal) → c ≡ Err x → Listed table x
+refusal-is-listed table _ passed x e = let z : ◌≡◌ {A = ℕ} 0 1 = cc in absurd (omega arith)
+refusal-is-listed table _ (listed y l) x e = let same : y ≡ x = cc in subst (Listed table) same l
+
 -- ---- by reasons
 
 -- a number of the table that has no place

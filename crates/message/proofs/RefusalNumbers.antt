@@ -2,14 +2,14 @@
 -- Assumes nothing.
 use Prim.Native.Nat.{ℕ, ◌+◌, ◌≤◌}
 use native.Mathlib.Omega.{arith}
-use mathlib.Core.Path.{◌≡◌, refl, sym, ap, subst}
+use mathlib.Core.Path.{◌≡◌, refl, sym, ap, subst, ◌∙◌}
 use mathlib.Core.Logic.{◌↔◌, inl, inr, ⊎_elim}
 use mathlib.Core.Bool.{Bool, true, false}
 use mathlib.Core.List.{List, [], ◌∷◌}
 use lib.Dec.{eqb}
 use lib.ListN.{length}
 use borrow.Author.Tests.{eq-eqb}
-use Rattle.std.specs.Prelude.{Ok}
+use Rattle.std.specs.Prelude.{Ok, Err}
 use Rattle.layout.specs.Outcomes.{refused, refusal, Check, no_refusal}
 use Rattle.layout.specs.Spans.{nowhere}
 use Rattle.layout.specs.Refusals.{Row, one_of, numbers_of, has_place, last_place, Listed}
@@ -19,8 +19,7 @@ use Rattle.layout.proofs.Refusals.{within, wider, placeless, AllListed, PassedOr
 use Rattle.field.specs.Field.{FieldOutcome, refused_field, read_field}
 use Rattle.field.specs.Refused.{field_table}
 use Rattle.field.proofs.RefusalNumbers.{RefusesField, refuses-field}
-use Rattle.message.specs.Walk.{Cut}
-use Rattle.message.specs.Walk.{Walk, number_in, refused_with, unless_refused, section_reasons, section_refusal, end_reasons, end_refusal, with_section, taken, start_walk, span_at, judged_in}
+use Rattle.message.specs.Walk.{Cut, told, Walk, number_in, refused_with, unless_refused, section_reasons, section_refusal, end_reasons, end_refusal, with_section, taken, start_walk, span_at, judged_in}
 use Rattle.message.specs.Grammar.{Five, Parts, fields_in, IsFrame}
 use Rattle.message.specs.Messages.{start_reasons, start_refusal, ends_right, sections_in, cut_message, outcome_of, or_refused, found_in, fields_read, read_message, Accepted}
 use Rattle.message.specs.Places.{places_in, fields_found}
@@ -131,6 +130,13 @@ accepted-is-0 m = (
   λ a. ⊎_elim (λ y. ap (λ (x : Refusal). x.number) y.1) (λ n. absurd (omega (arith, ap (λ (c : Cut). c.count) n.0, a))) (message-refuses m),
   λ e. ⊎_elim (λ y. y.0) (λ n. absurd (never-0 (read_message m).refusal n.1 e)) (message-refuses m),
 )
+
+-- so the refusal that a program answers has another number
+pub refused-some : (m : List ℕ) (x : Refusal) → told (Err x) ≡ read_message m → x.number ≡ 0 → ⊥
+refused-some m x e z =
+    let some = (accepted-is-0 m).1 (ap (λ (c : Cut). c.refusal.number) (sym e) ∙ z) in
+    let none = ap (λ (c : Cut). c.count) e in
+    absurd (omega (arith, some, none))
 
 -- ---- what an answer's numbers are at most
 

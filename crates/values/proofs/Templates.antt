@@ -23,13 +23,13 @@ use Rattle.grid.specs.declared.templates.Template.{Template as Template₃}
 use Rattle.grid.specs.declared.templates.Template.TheVariants.{LatLon, Rotated, Stretched, StretchedAndRotated}
 use Rattle.grid.proofs.AcceptedExactlyWhen.{accepted-follows as follows₃, named}
 use Rattle.product.specs.Blocks.{head, parameter, process, forecast, scaled, surface, common, ensemble, cluster, probability, aerosol, interval}
-use Rattle.product.specs.Templates.{fields₄, front, ahead, behind, time_ranges, lists, template_of}
+use Rattle.product.specs.Templates.{listed, fields₄, front, ahead, behind, time_ranges, lists, template_of}
 use Rattle.product.specs.Section4.{outcome₄}
 use Rattle.product.specs.Table.{is_timed}
 use Rattle.product.specs.declared.templates.PartKind.{PartKind}
 use Rattle.product.specs.declared.templates.PartKind.TheVariants.{None as no_part, Ensemble, Cluster, Probability, Aerosol}
 use Rattle.product.specs.declared.templates.Template.{Template as Template₄}
-use Rattle.product.specs.declared.templates.Template.TheVariants.{NotListed, Listed}
+use Rattle.std.specs.Prelude.{Option, Some, None}
 use Rattle.product.proofs.AcceptedExactlyWhen.{accepted-follows as follows₄, follows-listed}
 use Rattle.packing.specs.Section5.{fields₅, outcome₅}
 use Rattle.packing.specs.Section7.{outcome₇alone}
@@ -118,15 +118,18 @@ timed_word true word = word ++ ascii "21111114"
 timed_word false word = word
 
 -- no other number can have been accepted than the last template's
-abbrev pub word₄ : Template₄ → List ℕ
-word₄ (Listed no_part timed) = timed_word timed (ascii "412211111R11d1AD1AD")
-word₄ (Listed Ensemble timed) = timed_word timed (ascii "412211111R11d1AD1AD111")
-word₄ (Listed Cluster timed) = timed_word timed (ascii "412211111R11d1AD1AD111111144411414")
-word₄ (Listed Probability timed) = timed_word timed (ascii "412211111R11d1AD1AD111ADAD")
-word₄ (Listed Aerosol timed) = timed_word timed (ascii "41221121ADAD111R11d1AD1AD")
-word₄ NotListed = ascii "41221121ADAD111R11d1AD1AD21111114"
+abbrev pub part_word : PartKind → List ℕ
+part_word no_part = ascii "412211111R11d1AD1AD"
+part_word Ensemble = ascii "412211111R11d1AD1AD111"
+part_word Cluster = ascii "412211111R11d1AD1AD111111144411414"
+part_word Probability = ascii "412211111R11d1AD1AD111ADAD"
+part_word Aerosol = ascii "41221121ADAD111R11d1AD1AD"
 
-spelt₄ : (kind : PartKind) (timed : Bool) (n nc nv : ℕ) → spelt (fields₄ kind timed n nc nv) (word₄ (Listed kind timed)) ≡ true
+abbrev pub word₄ : Option Template₄ → List ℕ
+word₄ (Some t) = timed_word t.timed (part_word t.kind)
+word₄ None = ascii "41221121ADAD111R11d1AD1AD21111114"
+
+spelt₄ : (kind : PartKind) (timed : Bool) (n nc nv : ℕ) → spelt (fields₄ kind timed n nc nv) (word₄ (listed kind timed)) ≡ true
 unfolding spelt kind_of fields₄ front ahead behind time_ranges lists head parameter process forecast scaled surface common ensemble cluster probability aerosol interval time
 spelt₄ no_part true n nc nv = refl
 spelt₄ no_part false n nc nv = refl
@@ -139,7 +142,7 @@ spelt₄ Probability false n nc nv = refl
 spelt₄ Aerosol true n nc nv = refl
 spelt₄ Aerosol false n nc nv = refl
 
-pub row₄ : (s : List ℕ) (t : Template₄) (row row' : List ℤ) → template_of (be_at s 8 2) ≡ t → row' ≡ with_count (numbers_by (word₄ t) 1 s) row → PutsRecord (outcome₄ s) row row'
+pub row₄ : (s : List ℕ) (t : Option Template₄) (row row' : List ℤ) → template_of (be_at s 8 2) ≡ t → row' ≡ with_count (numbers_by (word₄ t) 1 s) row → PutsRecord (outcome₄ s) row row'
 row₄ s t row row' by e vs accepted =
     let f = follows₄ s vs accepted in
     let kind = f.0.part in
@@ -147,8 +150,8 @@ row₄ s t row row' by e vs accepted =
     let same = sym (follows-listed f.0 s f.1) ∙ by in
     stands row vs e
     (ap numbers_in f.2
-    ∙ spelt-numbers _ (word₄ (Listed kind timed)) 0 1 s (spelt₄ kind timed _ _ _)
-    ∙ ap (λ (t : Template₄). numbers_by (word₄ t) 1 s) same)
+    ∙ spelt-numbers _ (word₄ (listed kind timed)) 0 1 s (spelt₄ kind timed _ _ _)
+    ∙ ap (λ (t : Option Template₄). numbers_by (word₄ t) 1 s) same)
 
 -- ---- sections 5 and 7
 

@@ -20,6 +20,7 @@ use layout::Refusal;
 const MISSING: i64 = -9223372036854775808;
 
 // The record of a section into the row, or its refusal.
+#[tactic(auto, using(crate::proofs::RecordRead::check_refused, crate::proofs::RecordRead::no_places))]
 pub fn read_into(section: u8, s: &[u8], values: &mut [i64]) -> Result<(), Refusal>
     ensures { done result values.new ≡ into_row (section_outcome section s.now) values.old }
 {
@@ -36,10 +37,10 @@ fn check(section: u8, s: &[u8]) -> Result<(), Refusal>
     ensures { result ≡ check_of (section_outcome section s.now) }
 {
     match section {
-        1 => identification::read(s).map(|_| ()),
-        3 => grid::read(s).map(|_| ()),
-        4 => product::read(s).map(|_| ()),
-        5 => packing::read(s).map(|_| ()),
+        1 => identification::read(s).and(Ok(())),
+        3 => grid::read(s).and(Ok(())),
+        4 => product::read(s).and(Ok(())),
+        5 => packing::read(s).and(Ok(())),
         7 => layout::check_head(s, 7),
         _ => Err(Refusal::of(4, section)),
     }

@@ -24,12 +24,6 @@ next s letters row at i h =
 pub loop-i-init : goal.loop-i-init
 loop-i-init c = record { within = omega arith; long = refl; near = omega arith; ahead = refl }
 
-pub bounds-letters-i : goal.bounds-letters-i
-bounds-letters-i c = omega arith
-
-pub overflow_add-number : goal.overflow_add-number
-overflow_add-number c = omega (arith, c.requires)
-
 pub offset_bounds-values-i : goal.offset_bounds-values-i
 offset_bounds-values-i c = omega (arith, c.requires)
 
@@ -43,9 +37,6 @@ overflow_add-at c =
 
 pub overflow_add-i : goal.overflow_add-i
 overflow_add-i c = omega (arith, c.requires)
-
-pub loop-i-smaller : goal.loop-i-smaller
-loop-i-smaller c = omega arith
 
 pub loop-i-preserved : goal.loop-i-preserved
 loop-i-preserved c =

@@ -17,6 +17,3 @@ pub record Going (s letters : List ℕ) (row₀ row : List ℤ) (at i : ℕ) : T
 
 abbrev pub invariant-loop-i : goal.invariant-loop-i
 invariant-loop-i l = Going l.s l.letters l.initial.values l.values l.at l.i
-
-abbrev pub decreases-loop-i : goal.decreases-loop-i
-decreases-loop-i l = length l.letters - l.i

@@ -7,9 +7,9 @@ use mathlib.Core.List.{List}
 use Prim.Native.Nat.{ℕ}
 use lib.Dec.{eqb}
 use lib.IntN.{ℤ}
-use Rattle.product.specs.Templates.{template_of}
+use Rattle.product.specs.Templates.{listed, template_of}
 use Rattle.product.specs.Section4.{outcome₄}
-use Rattle.product.specs.declared.templates.Template.TheVariants.{NotListed, Listed}
+use Rattle.std.specs.Prelude.{None}
 use Rattle.product.specs.declared.templates.PartKind.TheVariants.{Aerosol}
 use Rattle.octets.specs.Octets.{be_at}
 use Rattle.values.specs.Letters.{numbers_by}
@@ -19,9 +19,9 @@ use Rattle.values.proofs.Templates.{word₄, row₄}
 use Rattle.values.proofs.put_product.Goals as goal
 
 -- the last word is 4.46's, and of a number that is not listed nothing is asked
-aerosol : (t : Bool) (s : List ℕ) (row row' : List ℤ) → template_of (be_at s 8 2) ≡ cond t (Listed Aerosol true) NotListed → row' ≡ with_count (numbers_by (word₄ NotListed) 1 s) row → PutsRecord (outcome₄ s) row row'
-aerosol true s row row' by e = row₄ s (Listed Aerosol true) row row' by e
-aerosol false s row row' by e = row₄ s NotListed row row' by e
+aerosol : (t : Bool) (s : List ℕ) (row row' : List ℤ) → template_of (be_at s 8 2) ≡ cond t (listed Aerosol true) None → row' ≡ with_count (numbers_by (word₄ None) 1 s) row → PutsRecord (outcome₄ s) row row'
+aerosol true s row row' by e = row₄ s (listed Aerosol true) row row' by e
+aerosol false s row row' by e = row₄ s None row row' by e
 
 -- an arm's row is that of its number's template
 arm : (s : List ℕ) (row row' : List ℤ) (key : ℕ) {number : ℕ} → number ≡ be_at s 8 2 → number ≡ key → row' ≡ with_count (numbers_by (word₄ (template_of key)) 1 s) row → PutsRecord (outcome₄ s) row row'
@@ -32,7 +32,7 @@ unfolding template_of
 returns-in_default c =
     let other = c.in_default.in_default-own.rest in
     let number = sym c.u16_at.ensures in
-    let by : template_of c.u16_at.result ≡ cond (eqb c.u16_at.result 46) (Listed Aerosol true) NotListed = simp (
+    let by : template_of c.u16_at.result ≡ cond (eqb c.u16_at.result 46) (listed Aerosol true) None = simp (
       ne_eqb _ _ other.0.0.0.0.0.0.0.1,
       ne_eqb _ _ other.0.0.0.0.0.0.1,
       ne_eqb _ _ other.0.0.0.0.0.1,
