@@ -5,6 +5,7 @@ ghost use Rattle.std.specs.Prelude.{◌≡◌, true, false, [], ◌∷◌, leb, 
 ghost use Rattle.lent.specs.Lent.{done, over, if_room};
 ghost use Rattle.lent.specs.Written.{written, append};
 
+#[tactic(auto, unfolding(crate::specs::Written::append, crate::specs::Written::one))]
 pub fn octet(out: &mut [u8], at: usize, octet: u8) -> usize
     ensures { written out.new result ≡ append (written out.old at) (octet ∷ []) }
 {
@@ -15,14 +16,13 @@ pub fn octet(out: &mut [u8], at: usize, octet: u8) -> usize
     at
 }
 
+#[tactic(auto, unfolding(crate::specs::Written::append), using(crate::proofs::Written::one_octet_on))]
 pub fn octets(out: &mut [u8], at: usize, octets: &[u8]) -> usize
     ensures { written out.new result ≡ append (written out.old at) octets.now }
 {
     let mut next = at;
-    let mut i = 0;
-    while i < octets.len() {
-        next = octet(out, next, octets[i]);
-        i += 1;
+    for one in octets {
+        next = octet(out, next, *one);
     }
     next
 }
@@ -34,10 +34,6 @@ pub fn numbers(row: &mut [u64], numbers: &[u64]) -> bool
     if row.len() < numbers.len() {
         return false;
     }
-    let mut i = 0;
-    while i < numbers.len() {
-        row[i] = numbers[i];
-        i += 1;
-    }
+    row[..numbers.len()].copy_from_slice(numbers);
     true
 }
