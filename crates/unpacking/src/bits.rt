@@ -52,9 +52,10 @@ pub struct Found {
 pub fn unpack_bits(packed: &[u8], bits: u32, row: &mut [u32])
     ensures { row.new ≡ filled bits packed.now row.old }
 {
-    let Some(width) = Width::new(bits) else {
+    if 32 < bits {
         return;
-    };
+    }
+    let width = Width { bits };
     let mut next = Cursor::start();
     for place in row.iter_mut() {
         let found = number(packed, next, width);

@@ -32,8 +32,8 @@ pub struct Run {
 pub fn unpack_octets(packed: &[u8], bits: u32, row: &mut [u32])
     ensures { row.new ≡ filled bits packed.now row.old }
 {
-    if let Some(width) = Width::new(bits) {
-        fill(packed, width, row);
+    if bits <= 32 {
+        fill(packed, Width { bits }, row);
     }
 }
 
@@ -85,7 +85,7 @@ fn octet(packed: &[u8], at: usize) -> u8
     packed.get(at).copied().unwrap_or(0)
 }
 
-// 2 ^ left, as a table: with a shift `unpack` takes half as long again for no number, which misses the bar.
+// 2 ^ left, as a table: with a shift `unpack_octets` takes a quarter longer or more.
 fn power(left: u32) -> u64
     requires { left < 8 }
     ensures { result ≡ 2 ^ left }

@@ -36,9 +36,10 @@ pub(crate) fn few_or_eights(packed: &[u8], bits: u32, row: &mut [u32])
 pub fn unpack_eights(packed: &[u8], bits: u32, row: &mut [u32])
     ensures { row.new ≡ filled bits packed.now row.old }
 {
-    let Some(width) = Width::new(bits) else {
+    if 32 < bits {
         return;
-    };
+    }
+    let width = Width { bits };
     let done = by_width(packed, width, row);
     carrying::fill(&packed[done.taken..], width, &mut row[done.written..]);
 }

@@ -12,4 +12,4 @@ pub record Going (bits : ℕ) (xs row : List ℕ) (i : ℕ) (next : Cursor) : Ty
   pub written : First bits xs row i
 
 abbrev pub invariant-loop-place : goal.invariant-loop-place
-invariant-loop-place l = Going l.width.bits l.packed l.row l.place-index l.next
+invariant-loop-place l = Going l.bits l.packed l.row l.place-index l.next
