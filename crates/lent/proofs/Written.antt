@@ -8,9 +8,10 @@ use native.Mathlib.Omega.{arith}
 use native.Mathlib.Nat.{zero-add}
 use native.Mathlib.Numerals.{add-one}
 use lib.Dec.{ltb}
-use lib.ListN.{length, take, drop, set, length-set, length-append}
+use lib.ListN.{length, get_or, take, drop, set, length-set, length-append}
 use lib.Seq.{sets, sets-eq, take-nil, take_at}
 use borrow.Author.Tests.{lt-ltb, le-ltb, ltb-true, ltb-false}
+use Rattle.std.proofs.lemmas.List.{take_more}
 use Rattle.lent.specs.Lent.{over}
 use Rattle.lent.specs.Written.{Written, written, one, append, starts_with}
 use Rattle.lent.specs.Rows.{in_turn}
@@ -24,6 +25,10 @@ append-both x (c ∷ t) u = append-both (one x c) t u
 -- what a call wrote, and then what the next one wrote
 pub and_then : (x : Written) {y z : Written} (t u : List ℕ) → y ≡ append x t → z ≡ append y u → z ≡ append x (t ++ u)
 and_then x t u e f = f ∙ ap (λ (w : Written). append w u) e ∙ sym (append-both x t u)
+
+-- one octet of a text more
+pub one_octet_on : (x : Written) (t : List ℕ) (i : ℕ) → i < length t → append x (take (i + 1) t) ≡ append (append x (take i t)) (get_or t i 0 ∷ [])
+one_octet_on x t i h = ap (append x) (take_more t i 0 h) ∙ append-both x (take i t) (get_or t i 0 ∷ [])
 
 -- ---- the room
 

@@ -46,6 +46,7 @@ impl<'a> Writer<'a> {
     }
 }
 
+#[tactic(auto, unfolding(crate::specs::Written::append, crate::specs::Written::one))]
 pub fn octet(out: &mut [u8], at: usize, octet: u8) -> usize
     ensures { written out.new result ≡ append (written out.old at) (octet ∷ []) }
 {
@@ -56,14 +57,13 @@ pub fn octet(out: &mut [u8], at: usize, octet: u8) -> usize
     at
 }
 
+#[tactic(auto, unfolding(crate::specs::Written::append), using(crate::proofs::Written::one_octet_on))]
 pub fn octets(out: &mut [u8], at: usize, octets: &[u8]) -> usize
     ensures { written out.new result ≡ append (written out.old at) octets.now }
 {
     let mut next = at;
-    let mut i = 0;
-    while i < octets.len() {
-        next = octet(out, next, octets[i]);
-        i += 1;
+    for one in octets {
+        next = octet(out, next, *one);
     }
     next
 }
@@ -75,10 +75,6 @@ pub fn numbers(row: &mut [u64], numbers: &[u64]) -> bool
     if row.len() < numbers.len() {
         return false;
     }
-    let mut i = 0;
-    while i < numbers.len() {
-        row[i] = numbers[i];
-        i += 1;
-    }
+    row[..numbers.len()].copy_from_slice(numbers);
     true
 }

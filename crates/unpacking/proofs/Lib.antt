@@ -1,7 +1,8 @@
 pub mod Runs
 pub mod SpareBits
 pub mod Filled
+pub mod Places
 pub mod Carried
-pub mod Full
+pub mod Parts
 pub mod SameRow
 pub mod Entries

@@ -1,12 +1,11 @@
 -- The laws of runs of bits.
 -- Assumes nothing.
-use mathlib.Core.Path.{◌≡◌, ◌∙◌}
+use mathlib.Core.Path.{◌≡◌, ◌∙◌, refl}
 use mathlib.Core.List.{List}
 use Prim.Native.Nat.{ℕ, zero, suc, ◌+◌, ◌-◌, ◌*◌, ◌/◌, ◌%◌, ◌^◌, ◌≤◌, ◌<◌}
-use native.Mathlib.Nat.{add-zero, add-suc, add_assoc, add-mul, mul_assoc, pow-suc, zero-div, div-one, div-div-eq-div-mul, lt_of_lt_of_le}
-use native.Mathlib.Numerals.{add-one}
+use native.Mathlib.Nat.{add-zero, add-suc, add_assoc, add-mul, mul_assoc, pow-suc, div-one, div-div-eq-div-mul, lt_of_lt_of_le}
 use native.Mathlib.Omega.{arith}
-use lib.ListN.{length, get_or, get_or-eq_default}
+use lib.ListN.{get_or}
 use lib.Pow.{high, low, pow_mono}
 use lib.Dec.{lit≤}
 use Rattle.unpacking.specs.Packed.{bit_at, bits_from}
@@ -21,26 +20,26 @@ unfolding bits_from
 bits_below xs from zero = omega arith
 bits_below xs from (suc w) = omega (arith, bits_below xs from w, bit_below xs (from + w), pow-suc 2 w)
 
--- one bit more
-pub bits-next : (xs : List ℕ) (from w : ℕ) → bits_from xs from (w + 1) ≡ bits_from xs from w * 2 + bit_at xs (from + w)
-unfolding bits_from
-bits-next xs from w = rw add-one
-
 -- the bits of octet q, one by one
-pub bit-of : (xs : List ℕ) (q j : ℕ) → j < 8 → bit_at xs (8 * q + j) ≡ get_or xs q 0 / 2 ^ (7 - j) % 2
+pub bit_of : (xs : List ℕ) (q j : ℕ) → j < 8 → bit_at xs (8 * q + j) ≡ get_or xs q 0 / 2 ^ (7 - j) % 2
 unfolding bit_at
-bit-of xs q j h =
+bit_of xs q j h =
     let d : (8 * q + j) / 8 ≡ q = omega arith in
     let m : (8 * q + j) % 8 ≡ j = omega arith in
     rw (d, m)
 
--- past the end every bit is 0
-pub bit_past : (xs : List ℕ) (q j : ℕ) → j < 8 → length xs ≤ q → bit_at xs (8 * q + j) ≡ 0
-bit_past xs q j h l = rw (bit-of xs q j h, get_or-eq_default xs 0 l, zero-div)
-
 -- a run of at most k bits is below 2 ^ k
-pub bits-under : (xs : List ℕ) (from w k : ℕ) → w ≤ k → bits_from xs from w < 2 ^ k
-bits-under xs from w k h = lt_of_lt_of_le (bits_below xs from w) (pow_mono h)
+pub bits_under : (xs : List ℕ) (from w k : ℕ) → w ≤ k → bits_from xs from w < 2 ^ k
+bits_under xs from w k h = lt_of_lt_of_le (bits_below xs from w) (pow_mono h)
+
+-- runs of the same bits, wherever they stand
+pub bits_same : (xs ys : List ℕ) (from to w : ℕ) → ((k : ℕ) → k < w → bit_at xs (from + k) ≡ bit_at ys (to + k)) → bits_from xs from w ≡ bits_from ys to w
+unfolding bits_from
+bits_same xs ys from to zero h = refl
+bits_same xs ys from to (suc w) h = rw (bits_same xs ys from to w (λ k l. h k (omega arith)), h w (omega arith))
+
+-- how large bits and runs of bits are
+pub ruleset small = (bit_below, bits_under)
 
 -- number i starts where those before it end
 pub next_place : (i bits : ℕ) → (i + 1) * bits ≡ i * bits + bits
@@ -71,7 +70,7 @@ octet-top xs q (suc j) h l =
     let x = get_or xs q 0 in
     let e₁ : 8 - j ≡ suc (7 - j) = omega arith in
     let e₂ : 8 - suc j ≡ 7 - j = omega arith in
-    rw (octet-top xs q j h (omega arith), bit-of xs q j l, e₁, e₂, pow-suc 2 (7 - j), ← div-div-eq-div-mul x (2 ^ (7 - j)) 2)
+    rw (octet-top xs q j h (omega arith), bit_of xs q j l, e₁, e₂, pow-suc 2 (7 - j), ← div-div-eq-div-mul x (2 ^ (7 - j)) 2)
     (omega arith)
 
 -- a run that ends with an octet, and the octet behind it

@@ -7,19 +7,14 @@ use native.Mathlib.Nat.{mul-le-mul_right}
 use native.Mathlib.Omega.{arith}
 use lib.ListN.{get_or, replicate}
 use Rattle.lent.proofs.Rows.{each_same}
-use Rattle.unpacking.specs.Packed.{bit_at, bits_from, packed_at, unpacked}
-use Rattle.unpacking.proofs.Runs.{next_place}
-
-bits-same : (xs ys : List ℕ) (from w : ℕ) → ((k : ℕ) → k < from + w → bit_at xs k ≡ bit_at ys k) → bits_from xs from w ≡ bits_from ys from w
-unfolding bits_from
-bits-same xs ys from zero h = refl
-bits-same xs ys from (suc w) h = rw (bits-same xs ys from w (λ k l. h k (omega arith)), h (from + w) (omega arith))
+use Rattle.unpacking.specs.Packed.{bit_at, packed_at, unpacked}
+use Rattle.unpacking.proofs.Runs.{bits_same, next_place}
 
 pub spare : (bits n : ℕ) (xs ys : List ℕ) → ((k : ℕ) → k < n * bits → bit_at xs k ≡ bit_at ys k) → unpacked bits n xs ≡ unpacked bits n ys
 unfolding unpacked packed_at
-spare bits n xs ys h = each_same 0 (packed_at bits xs) (packed_at bits ys) n (λ j l. bits-same xs ys (j * bits) bits (λ k m. h k (before j k l m)))
+spare bits n xs ys h = each_same 0 (packed_at bits xs) (packed_at bits ys) n (λ j l. bits_same xs ys (j * bits) (j * bits) bits (λ k m. h (j * bits + k) (before j k l m)))
   where
-    before : (j k : ℕ) → j < n → k < j * bits + bits → k < n * bits
+    before : (j k : ℕ) → j < n → k < bits → j * bits + k < n * bits
     before j k l m =
         let more : j + 1 ≤ n = omega arith in
         omega (arith, next_place j bits, mul-le-mul_right bits more)

@@ -12,68 +12,80 @@
 //     none comes in   6 bits,                        4      4 / 2^1 = 2 goes out           4 % 2^1 = 0 is carried, 1 bit
 //
 // What is carried has seven bits at most, so eight powers of two are enough. An octet that is not there counts as 0.
-ghost use Rattle.std.specs.Prelude.{◌≡◌, ◌+◌, ◌^◌, ◌≤◌, ◌<◌, length, get_or};
+ghost use Rattle.std.specs.Prelude.{◌≡◌, ◌^◌, ◌<◌, length, get_or};
 ghost use Rattle.unpacking.specs.Packed.{unpacked};
 ghost use Rattle.unpacking.specs.Filled.{filled};
-ghost use Rattle.unpacking.specs.Standing.{Stands};
+ghost use Rattle.unpacking.specs.Standing.{Stands, Stepped};
 
-// How far a run is: the octets taken, the numbers written, and the `left` bits that no number has taken yet, which make the number `held`.
-#[derive(Clone, Copy)]
+use crate::width::Width;
+
+// How far a run is: the octets taken, and the `left` bits at their end that no number has taken yet, which make the number `held`.
+#[derive(Clone, Copy, PartialEq, Eq, Default)]
 pub struct Run {
     pub taken: usize,
-    pub written: usize,
     pub held: u64,
     pub left: u32,
 }
 
-// The run: a step for each place, from where it stands to the end of the row.
-#[tactic(auto, using(crate::proofs::Carried::ends))]
-pub(crate) fn finish(packed: &[u8], from: Run, bits: u32, row: &mut [u32])
-    requires { Stands bits packed.now row.old from × (bits ≤ 32) }
-    ensures { row.new ≡ unpacked bits (length row.old) packed.now }
+// Fills the row with its numbers; a number of more than 32 bits has no room in a place, and the row stays as it was.
+#[tactic(auto, using(crate::proofs::Places::places))]
+pub fn unpack_octets(packed: &[u8], bits: u32, row: &mut [u32])
+    ensures { row.new ≡ filled bits packed.now row.old }
 {
-    let mut run = from;
-    while run.written < row.len() {
-        run = step(packed, run, bits, row);
+    if bits <= 32 {
+        fill(packed, Width { bits }, row);
+    }
+}
+
+// The run: a step for each place.
+#[tactic(auto, using(crate::proofs::Places::places, crate::proofs::Carried::begins))]
+#[inline(always)]
+pub(crate) fn fill(packed: &[u8], width: Width, row: &mut [u32])
+    ensures { row.new ≡ unpacked width.bits (length row.old) packed.now }
+{
+    let mut run = Run::default();
+    for place in row.iter_mut() {
+        let (number, next) = step(packed, run, width);
+        *place = number;
+        run = next;
     }
 }
 
 // The step: octets come in, one at a time, until a number is whole; it goes out, and the rest is carried.
-fn step(packed: &[u8], run: Run, bits: u32, row: &mut [u32]) -> Run
-    requires { Stands bits packed.now row.old run × (run.written < length row.old) × (bits ≤ 32) }
-    ensures { Stands bits packed.now row.new result × (result.written ≡ run.written + 1) }
+#[tactic(auto, using(crate::proofs::Carried::carried))]
+#[inline(always)]
+fn step(packed: &[u8], run: Run, width: Width) -> (u32, Run)
+    requires { Stands packed.now run × (run.taken < 2 ^ 63) }
+    ensures { Stepped packed.now width.bits run result.0 result.1 }
 {
     let mut taken = run.taken;
     let mut held = run.held;
     let mut left = run.left;
-    while left < bits {
+    while left < width.bits {
         held = held * 256 + octet(packed, taken) as u64;
         left += 8;
         taken += 1;
     }
-    left -= bits;
+    left -= width.bits;
     let weight = power(left);
-    let number = held / weight;
+    let number = (held / weight) as u32;
     let rest = held % weight;
-    let i = run.written;
-    row[i] = number as u32;
-    let written = i + 1;
-    Run {
+    let next = Run {
         taken,
-        written,
         held: rest,
         left,
-    }
+    };
+    (number, next)
 }
 
 // Octet `at`, counted from 0.
 fn octet(packed: &[u8], at: usize) -> u8
     ensures { result ≡ get_or packed.now at 0 }
 {
-    if at < packed.len() { packed[at] } else { 0 }
+    packed.get(at).copied().unwrap_or(0)
 }
 
-// 2 ^ left.
+// 2 ^ left, as a table: with a shift `unpack_octets` takes a quarter longer or more.
 fn power(left: u32) -> u64
     requires { left < 8 }
     ensures { result ≡ 2 ^ left }
@@ -88,20 +100,4 @@ fn power(left: u32) -> u64
         6 => 64,
         _ => 128,
     }
-}
-
-// Fills the row with its numbers; a number of more than 32 bits has no room in a place, and the row stays as it was.
-pub fn unpack_octets(packed: &[u8], bits: u32, row: &mut [u32])
-    ensures { row.new ≡ filled bits packed.now row.old }
-{
-    if 32 < bits {
-        return;
-    }
-    let start = Run {
-        taken: 0,
-        written: 0,
-        held: 0,
-        left: 0,
-    };
-    finish(packed, start, bits, row);
 }

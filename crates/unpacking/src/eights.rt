@@ -1,18 +1,22 @@
 // For speed alone: what `carrying` does, eight numbers a turn, with an arm for each width. Its promise is the same, and nothing needs it: `unpack` of
 // the crate, which calls it, can call `carrying` in its place.
 //
-// Its speed hangs on what the compiler makes of it. With a literal width in an arm it knows which octets each of the eight numbers crosses, and every
-// power. For that it has to copy a group into the arm, which it does only with a small one: so no test is made whether an octet is there, and the
-// powers are a table, which it takes for less than the arms of `carrying::power`. `bench/run --check` fails where this is lost.
-ghost use Rattle.std.specs.Prelude.{◌≡◌, ◌+◌, ◌≤◌, ◌<◌, length};
+// Its speed hangs on what the compiler makes of it. In an arm it knows the width, and how many octets and places a group has. So it knows which octets
+// each of the eight numbers crosses, that they are there, and every power, and no loop and no test is left. For that it has to copy `carrying::fill`
+// and the step into each arm, as their `inline(always)` asks. `bench/run --check` fails where this is lost.
+ghost use Rattle.std.specs.Prelude.{◌≡◌, ◌≤◌};
 ghost use Rattle.unpacking.specs.Filled.{filled};
-ghost use Rattle.unpacking.specs.Standing.{Stands, First};
-ghost use Rattle.unpacking.specs.Groups.{Grouped, Groupable, Ready, Fuller};
+ghost use Rattle.unpacking.specs.Groups.{Grouped};
 
 use crate::carrying;
-use crate::carrying::Run;
+use crate::width::Width;
 
-const POWERS: [u64; 8] = [1, 2, 4, 8, 16, 32, 64, 128];
+// The octets that whole groups have taken, and the places that they have written.
+#[derive(Clone, Copy, Default)]
+struct Done {
+    taken: usize,
+    written: usize,
+}
 
 // Fills the row as `carrying` does, which needs no help with fewer than eight numbers.
 pub(crate) fn few_or_eights(packed: &[u8], bits: u32, row: &mut [u32])
@@ -25,147 +29,81 @@ pub(crate) fn few_or_eights(packed: &[u8], bits: u32, row: &mut [u32])
     }
 }
 
-// Groups of eight as far as there are octets, and then the rest as `carrying` takes it. It is exported for C so that the compiler keeps it apart in the
-// library of the engines: copied into `unpack`, it would have that save registers where there are few numbers too.
+// Groups of eight as far as there are octets, and then the rest as `carrying` takes it. It is kept apart from `unpack`: copied into it, it would have
+// that save registers where there are few numbers too.
+#[tactic(auto, using(crate::proofs::Parts::rest_on, crate::proofs::Places::places))]
+#[inline(never)]
 pub fn unpack_eights(packed: &[u8], bits: u32, row: &mut [u32])
     ensures { row.new ≡ filled bits packed.now row.old }
 {
     if 32 < bits {
         return;
     }
-    // The address and the length of the octets as a local: the caller's lie in memory, which the compiler takes to be changed by each write to the
-    // row, and would read again in each turn.
-    let octets = &packed[0..];
-    let run = widths(octets, bits, row);
-    carrying::finish(octets, run, bits, row);
+    let width = Width { bits };
+    let done = by_width(packed, width, row);
+    carrying::fill(&packed[done.taken..], width, &mut row[done.written..]);
 }
 
-// As many groups as the row has places for and the octets hold, by the arm of this width.
-fn widths(packed: &[u8], bits: u32, row: &mut [u32]) -> Run
-    requires { bits ≤ 32 }
-    ensures { Stands bits packed.now row.new result }
+// Groups by the arm of this width. The arms stay: a width that is known as the program runs is none that the compiler knows.
+fn by_width(packed: &[u8], width: Width, row: &mut [u32]) -> Done
+    ensures { Grouped width.bits packed.now row.new result }
 {
-    match bits {
-        0 => groups(packed, 0, 8, 0, bits, row),
-        1 => groups(packed, 1, 8, 1, bits, row),
-        2 => groups(packed, 2, 8, 2, bits, row),
-        3 => groups(packed, 3, 8, 3, bits, row),
-        4 => groups(packed, 4, 8, 4, bits, row),
-        5 => groups(packed, 5, 8, 5, bits, row),
-        6 => groups(packed, 6, 8, 6, bits, row),
-        7 => groups(packed, 7, 8, 7, bits, row),
-        8 => groups(packed, 8, 8, 8, bits, row),
-        9 => groups(packed, 9, 8, 9, bits, row),
-        10 => groups(packed, 10, 8, 10, bits, row),
-        11 => groups(packed, 11, 8, 11, bits, row),
-        12 => groups(packed, 12, 8, 12, bits, row),
-        13 => groups(packed, 13, 8, 13, bits, row),
-        14 => groups(packed, 14, 8, 14, bits, row),
-        15 => groups(packed, 15, 8, 15, bits, row),
-        16 => groups(packed, 16, 8, 16, bits, row),
-        _ => wider(packed, bits, row),
+    match width.bits {
+        0 => groups::<0>(packed, row),
+        1 => groups::<1>(packed, row),
+        2 => groups::<2>(packed, row),
+        3 => groups::<3>(packed, row),
+        4 => groups::<4>(packed, row),
+        5 => groups::<5>(packed, row),
+        6 => groups::<6>(packed, row),
+        7 => groups::<7>(packed, row),
+        8 => groups::<8>(packed, row),
+        9 => groups::<9>(packed, row),
+        10 => groups::<10>(packed, row),
+        11 => groups::<11>(packed, row),
+        12 => groups::<12>(packed, row),
+        13 => groups::<13>(packed, row),
+        14 => groups::<14>(packed, row),
+        15 => groups::<15>(packed, row),
+        16 => groups::<16>(packed, row),
+        17 => groups::<17>(packed, row),
+        18 => groups::<18>(packed, row),
+        19 => groups::<19>(packed, row),
+        20 => groups::<20>(packed, row),
+        21 => groups::<21>(packed, row),
+        22 => groups::<22>(packed, row),
+        23 => groups::<23>(packed, row),
+        24 => groups::<24>(packed, row),
+        25 => groups::<25>(packed, row),
+        26 => groups::<26>(packed, row),
+        27 => groups::<27>(packed, row),
+        28 => groups::<28>(packed, row),
+        29 => groups::<29>(packed, row),
+        30 => groups::<30>(packed, row),
+        31 => groups::<31>(packed, row),
+        _ => groups::<32>(packed, row),
     }
 }
 
-// The arms above 16 bits. No width is left for the last: its count is not eight, since with eight in every arm the compiler would unroll a group before
-// it copies it, and then not copy it.
-fn wider(packed: &[u8], bits: u32, row: &mut [u32]) -> Run
-    requires { bits ≤ 32 }
-    ensures { Stands bits packed.now row.new result }
+// As many groups as the row has places for and the octets hold. Eight numbers take `BITS` octets.
+fn groups<const BITS: u32>(packed: &[u8], row: &mut [u32]) -> Done
+    requires { BITS ≤ 32 }
+    ensures { Grouped BITS packed.now row.new result }
 {
-    match bits {
-        17 => groups(packed, 17, 8, 17, bits, row),
-        18 => groups(packed, 18, 8, 18, bits, row),
-        19 => groups(packed, 19, 8, 19, bits, row),
-        20 => groups(packed, 20, 8, 20, bits, row),
-        21 => groups(packed, 21, 8, 21, bits, row),
-        22 => groups(packed, 22, 8, 22, bits, row),
-        23 => groups(packed, 23, 8, 23, bits, row),
-        24 => groups(packed, 24, 8, 24, bits, row),
-        25 => groups(packed, 25, 8, 25, bits, row),
-        26 => groups(packed, 26, 8, 26, bits, row),
-        27 => groups(packed, 27, 8, 27, bits, row),
-        28 => groups(packed, 28, 8, 28, bits, row),
-        29 => groups(packed, 29, 8, 29, bits, row),
-        30 => groups(packed, 30, 8, 30, bits, row),
-        31 => groups(packed, 31, 8, 31, bits, row),
-        32 => groups(packed, 32, 8, 32, bits, row),
-        _ => groups(packed, bits, 16, 2 * bits as usize, bits, row),
-    }
-}
-
-// Groups of `per` numbers, which `octets` octets hold. The width is passed twice: as the literal that the compiler knows, and as `bits`.
-fn groups(packed: &[u8], width: u32, per: usize, octets: usize, bits: u32, row: &mut [u32]) -> Run
-    requires { Grouped bits width per octets }
-    ensures { Stands bits packed.now row.new result }
-{
-    let mut run = Run {
-        taken: 0,
-        written: 0,
-        held: 0,
-        left: 0,
-    };
-    while per <= row.len() - run.written && octets <= packed.len() - run.taken {
-        group(packed, run, width, row, run.written + per);
-        run = Run {
-            taken: run.taken + octets,
-            written: run.written + per,
-            held: 0,
-            left: 0,
+    let octets = BITS as usize;
+    let width = Width { bits: BITS };
+    let mut done = Done::default();
+    while 8 <= row.len() - done.written && octets <= packed.len() - done.taken {
+        let next = Done {
+            taken: done.taken + octets,
+            written: done.written + 8,
         };
+        carrying::fill(
+            &packed[done.taken..next.taken],
+            width,
+            &mut row[done.written..next.written],
+        );
+        done = next;
     }
-    run
-}
-
-// The numbers of one group, up to place `end`.
-#[tactic(auto, using(crate::proofs::Runs::next_place))]
-fn group(packed: &[u8], from: Run, width: u32, row: &mut [u32], end: usize)
-    requires { Stands width packed.now row.old from × Groupable width packed.now row.old from end }
-    ensures { First width packed.now row.new end }
-{
-    let mut run = from;
-    while run.written < end {
-        run = number(packed, run, width, row);
-    }
-}
-
-// One number, as `carrying::step` takes it, of octets that are there.
-fn number(packed: &[u8], run: Run, bits: u32, row: &mut [u32]) -> Run
-    requires { Stands bits packed.now row.old run × (run.written < length row.old) × Ready bits packed.now run }
-    ensures { Stands bits packed.now row.new result × (result.written ≡ run.written + 1) }
-{
-    let one = fill(packed, run, bits);
-    let two = fill(packed, one, bits);
-    let three = fill(packed, two, bits);
-    let full = fill(packed, three, bits);
-    let left = full.left - bits;
-    let weight = POWERS[left as usize];
-    let value = full.held / weight;
-    let rest = full.held % weight;
-    let i = full.written;
-    row[i] = value as u32;
-    let written = i + 1;
-    Run {
-        taken: full.taken,
-        written,
-        held: rest,
-        left,
-    }
-}
-
-// One octet more, unless there are bits enough.
-fn fill(packed: &[u8], run: Run, bits: u32) -> Run
-    requires { Ready bits packed.now run }
-    ensures { Fuller bits packed.now run result }
-{
-    if bits <= run.left {
-        return run;
-    }
-    let at = run.taken;
-    Run {
-        taken: at + 1,
-        written: run.written,
-        held: run.held * 256 + packed[at] as u64,
-        left: run.left + 8,
-    }
+    done
 }

@@ -9,6 +9,7 @@ ghost use Rattle.unpacking.specs.Filled.{filled};
 pub mod bits;
 pub mod carrying;
 mod eights;
+mod width;
 
 // Alone for the exports for C, which are in a crate of their own.
 pub use crate::eights::unpack_eights;

@@ -2,22 +2,14 @@
 -- Assumes nothing.
 use mathlib.Core.Path.{◌≡◌}
 use mathlib.Core.List.{List}
-use Prim.Native.Nat.{ℕ, ◌+◌, ◌-◌, ◌*◌, ◌≤◌, ◌<◌}
-use lib.ListN.{length}
-use Rattle.lent.proofs.Rows.{Filled}
-use Rattle.unpacking.specs.Packed.{packed_at}
+use Prim.Native.Nat.{ℕ, ◌+◌, ◌*◌}
+use Rattle.unpacking.specs.Standing.{First}
 use Rattle.unpacking.specs.declared.bits.Cursor.{Cursor}
 use Rattle.unpacking.proofs.bits.unpack_bits.Given as goal
 
-pub record Going (bits : ℕ) (xs row₀ row : List ℕ) (i : ℕ) (c : Cursor) : Type 0 where
-  pub within : i ≤ length row
-  pub long : length row ≡ length row₀
-  pub place : 8 * c.at + c.bit ≡ i * bits
-  pub inside : c.bit < 8
-  pub written : Filled 0 (packed_at bits xs) row i
+pub record Going (bits : ℕ) (xs row : List ℕ) (i : ℕ) (next : Cursor) : Type 0 where
+  pub place : 8 * next.at + next.bit ≡ i * bits
+  pub written : First bits xs row i
 
-abbrev pub invariant-loop-i : goal.invariant-loop-i
-invariant-loop-i l = Going l.bits l.packed l.initial.row l.row l.i l.c
-
-abbrev pub decreases-loop-i : goal.decreases-loop-i
-decreases-loop-i l = length l.initial.row - l.i
+abbrev pub invariant-loop-place : goal.invariant-loop-place
+invariant-loop-place l = Going l.bits l.packed l.row l.place-index l.next
