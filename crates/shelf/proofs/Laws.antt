@@ -1,7 +1,7 @@
 -- Joining two shelves may be done either way round, in any grouping and twice over with the same outcome; the empty shelf adds nothing; putting a card is joining with the shelf that has only that; and filing a list of cards is joining with the shelf that the list makes from empty.
 -- Assumes nothing.
-use mathlib.Core.Path.{◌≡◌, refl, sym, ap, ◌∙◌}
-use mathlib.Core.Bool.{Bool, true, false, true≢false, ◌&&◌}
+use mathlib.Core.Path.{◌≡◌, sym, ap, ◌∙◌}
+use mathlib.Core.Bool.{Bool, true, false}
 use mathlib.Core.List.{List, [], ◌∷◌}
 use mathlib.Core.Logic.{◌≢◌}
 use Prim.Native.Nat.{ℕ, ◌<◌, ◌≤◌}
@@ -10,6 +10,7 @@ use native.Mathlib.Omega.{arith}
 use lib.ListN.{length, set, replicate, length-set, length-replicate, get_or-replicate}
 use lib.Dec.{ltb}
 use borrow.Author.Tests.{lt-ltb, ltb-true}
+use Rattle.std.proofs.lemmas.Bool.{and_parts}
 use lib.Seq.{get_or-set_same, get_or-set_other, set-get_or, set_out}
 use Rattle.card.specs.declared.Card.{Card}
 use Rattle.card.proofs.Strict.{Join, less-apart, max-left, max-right}
@@ -103,13 +104,9 @@ unchanged-same s n c long k = by-room (dec_le 64 n)
     by-room (yes h) = ap shelf (set_out s.slots n _ (omega arith))
     by-room (no d) = let l : ltb n 64 ≡ true = lt-ltb n 64 (omega arith) in put-stays s n c (rw l at k)
 
-both_hold : (a b : Bool) → (a && b) ≡ true → (a ≡ true) × (b ≡ true)
-both_hold true b e = (refl, e)
-both_hold false b e = absurd (true≢false (sym e))
-
 pub changed-differs : (s : Shelf) (n : ℕ) (c : Card) → length s.slots ≡ 64 → (put_of s n c).changed ≡ true → slot_at (put_shelf s n c) n ≢ slot_at s n
 changed-differs s n c long k e =
-    let b = both_hold (ltb n 64) (less_slot (slot_at s n) (holding c)) k in
+    let b = and_parts (ltb n 64) (less_slot (slot_at s n) (holding c)) k in
     less-apart slot-strict b.1 (sym e ∙ put-raises s n c long (ltb-true _ _ b.0) b.1)
 
 -- what putting a card comes to, by what is said of it
@@ -117,7 +114,7 @@ changed-differs s n c long k e =
 pub put_changed : (s : Shelf) (n : ℕ) (c : Card) (t : Bool) → t ≡ (put_of s n c).changed → t ≡ true → ◌≡◌ {A = PutDone} (record { shelf = shelf (set s.slots n (holding c)); changed = t }) (put_of s n c)
 unfolding greater_slot
 put_changed s n c t e h =
-    let b = both_hold (ltb n 64) (less_slot (slot_at s n) (holding c)) (sym e ∙ h) in
+    let b = and_parts (ltb n 64) (less_slot (slot_at s n) (holding c)) (sym e ∙ h) in
     let raised = max-right slot-strict (slot_at s n) (holding c) b.1 in
     λ i. record { shelf = shelf (set s.slots n (sym raised i)); changed = e i }
 

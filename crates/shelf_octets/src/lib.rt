@@ -77,7 +77,7 @@ pub fn write(out: &mut [u8], shelf: Shelf) -> usize
     next
 }
 
-#[tactic(auto, unfolding(crate::specs::ShelfOctets::octets_of_slot), using(lent::proofs::Written::and_then))]
+#[tactic(auto, unfolding(crate::specs::ShelfOctets::octets_of_slot))]
 fn write_slot(out: &mut [u8], at: usize, slot: Option<Card>) -> usize
     ensures { written out.new result ≡ append (written out.old at) (octets_of_slot slot) }
 {
