@@ -85,7 +85,6 @@ fn field_lines(out: &mut Writer, message: &[u8], cut: Cut)
 }
 
 // The sections are parts of the message, and nothing is copied.
-
 fn field_line(out: &mut Writer, number: u64, message: &[u8], cut: Cut, k: usize)
     requires { LowField (field_of cut k) }
     ensures { out.new ≡ writes out.old (field_line number (shown_in message.now (field_of cut k)) (field_of cut k)) }
