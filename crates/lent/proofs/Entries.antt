@@ -6,7 +6,6 @@ use mathlib.Core.List.{[], ◌∷◌}
 use lib.Dec.{leb}
 use lib.ListN.{length}
 use Rattle.lent.specs.Lent.{done, over, if_room}
-use Rattle.lent.specs.Written.{written, append}
 use Rattle.lent.specs.Writers.{says, writer, writes}
 use Rattle.entry.specs.Entry.{Entry}
 use Rattle.lent.proofs as code
@@ -22,12 +21,6 @@ writer-octet = record { takes = λ lent given. tt; ends = code.Writer.octet.Met.
 
 pub writer-octets : Entry code.Writer.octets.Reads.Asked code.Writer.octets.Reads.Learnt code.Writer.octets.Statement.statement (λ given r later. later.0.now ≡ writes given.0.now given.1.0.now)
 writer-octets = record { takes = λ lent given. tt; ends = code.Writer.octets.Met.met; tells = λ lent given r later e. e }
-
-pub octet : Entry code.octet.Reads.Asked code.octet.Reads.Learnt code.octet.Statement.statement (λ given r later. written later.0.now r ≡ append (written given.0.now given.1.0) (given.1.1.0 ∷ []))
-octet = record { takes = λ lent given. tt; ends = code.octet.Met.met; tells = λ lent given r later e. e }
-
-pub octets : Entry code.octets.Reads.Asked code.octets.Reads.Learnt code.octets.Statement.statement (λ given r later. written later.0.now r ≡ append (written given.0.now given.1.0) given.1.1.0.now)
-octets = record { takes = λ lent given. tt; ends = code.octets.Met.met; tells = λ lent given r later e. e }
 
 pub numbers : Entry code.numbers.Reads.Asked code.numbers.Reads.Learnt code.numbers.Statement.statement (λ given r later. done r later.0.now ≡ if_room true false (leb (length given.1.0.now) (length given.0.now)) (over given.0.now given.1.0.now) given.0.now)
 numbers = record { takes = λ lent given. tt; ends = code.numbers.Met.met; tells = λ lent given r later e. e }

@@ -3,7 +3,7 @@
 use mathlib.Core.Path.{◌≡◌, refl, ap, ap₂, sym, ◌∙◌}
 use mathlib.Core.Bool.{Bool, true, false, cond}
 use mathlib.Core.List.{List, [], ◌∷◌, ◌++◌}
-use Prim.Native.Nat.{ℕ, suc, ◌+◌, ◌-◌, ◌≤◌, ◌<◌}
+use Prim.Native.Nat.{ℕ, suc, ◌+◌, ◌-◌, ◌≤◌}
 use native.Mathlib.Omega.{arith}
 use native.Mathlib.Nat.{zero-add}
 use native.Mathlib.Numerals.{add-one}
@@ -14,21 +14,12 @@ use borrow.Author.Tests.{lt-ltb, le-ltb, ltb-true, ltb-false}
 use Rattle.std.proofs.lemmas.List.{take_more}
 use Rattle.lent.specs.Lent.{over}
 use Rattle.lent.specs.Written.{Written, written, one, append, starts_with}
-use Rattle.lent.specs.Rows.{in_turn}
 
 -- two texts, one after the other
 pub append-both : (x : Written) (t u : List ℕ) → append x (t ++ u) ≡ append (append x t) u
 unfolding append
 append-both x [] u = refl
 append-both x (c ∷ t) u = append-both (one x c) t u
-
--- what a call wrote, and then what the next one wrote
-pub and_then : (x : Written) {y z : Written} (t u : List ℕ) → y ≡ append x t → z ≡ append y u → z ≡ append x (t ++ u)
-and_then x t u e f = f ∙ ap (λ (w : Written). append w u) e ∙ sym (append-both x t u)
-
--- one octet of a text more
-pub one_octet_on : (x : Written) (t : List ℕ) (i : ℕ) → i < length t → append x (take (i + 1) t) ≡ append (append x (take i t)) (get_or t i 0 ∷ [])
-one_octet_on x t i h = ap (append x) (take_more t i 0 h) ∙ append-both x (take i t) (get_or t i 0 ∷ [])
 
 -- ---- the room
 
@@ -105,41 +96,3 @@ module _ (out t : List ℕ) {y : Written} (e : y ≡ starts_with out t) where
 
   pub starts-front : take y.at y.octets ≡ t
   starts-front = ap (take y.at) starts-over ∙ take_at t (drop (length t) out) y.at (sym starts-to)
-
--- ---- a loop that writes piece after piece: what is left, written behind what is written so far, makes the whole
-
-pub record Writing (first : Written) (all : List ℕ) (here : Written) (rest : List ℕ) : Type 0 where
-  pub room : length here.octets ≡ length first.octets
-  pub left : append here rest ≡ append first all
-
-module _ (first : Written) (all : List ℕ) (x : Written) where
-  -- the next piece, and what is left then
-  pub writes-on : {y : Written} {rest : List ℕ} (t later : List ℕ) → Writing first all x rest → rest ≡ t ++ later → y ≡ append x t → Writing first all y later
-  writes-on t later w p e =
-      record {
-        room = ap (λ (z : Written). length z.octets) e ∙ same-room x t ∙ w.room;
-        left = ap (λ (z : Written). append z later) e ∙ sym (append-both x t later) ∙ sym (ap (append x) p) ∙ w.left;
-      }
-
-  pub writes-all : {rest : List ℕ} → Writing first all x rest → rest ≡ [] → x ≡ append first all
-  unfolding append
-  writes-all w e = sym (ap (append x) e) ∙ w.left
-
--- the pieces of n numbers in turn, of which i are written
-pub record Turns (first : Written) (f : ℕ → List ℕ) (n : ℕ) (here : Written) (i : ℕ) : Type 0 where
-  pub turns : i ≤ n
-  pub rest : Writing first (in_turn f 0 n) here (in_turn f i (n - i))
-
-module _ (first : Written) (f : ℕ → List ℕ) (n : ℕ) where
-  pub first-turn : Turns first f n first 0
-  first-turn = let all : n - 0 ≡ n = omega arith in record { turns = omega arith; rest = record { room = refl; left = rw all } }
-
-  pub next-turn : (x : Written) (i : ℕ) {y : Written} → Turns first f n x i → i < n → y ≡ append x (f i) → Turns first f n y (i + 1)
-  unfolding in_turn
-  next-turn x i t h e =
-      let more : n - i ≡ suc (n - (i + 1)) = omega arith in
-      record { turns = omega arith; rest = writes-on first _ x (f i) (in_turn f (i + 1) (n - (i + 1))) t.rest (rw (more, add-one i)) e }
-
-  pub last_turn : (x : Written) (i : ℕ) → Turns first f n x i → n ≤ i → x ≡ append first (in_turn f 0 n)
-  unfolding in_turn
-  last_turn x i t h = let none : n - i ≡ 0 = omega arith in writes-all first _ x t.rest (rw none)

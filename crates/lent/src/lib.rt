@@ -3,7 +3,6 @@
 
 ghost use Rattle.std.specs.Prelude.{◌≡◌, true, false, [], ◌∷◌, leb, length};
 ghost use Rattle.lent.specs.Lent.{done, over, if_room};
-ghost use Rattle.lent.specs.Written.{written, append};
 ghost use Rattle.lent.specs.Writers.{says, writer, writes};
 
 // A lent buffer that is written from an index on: octet after octet, each if there is room.
@@ -14,7 +13,7 @@ pub struct Writer<'a> {
 }
 
 impl<'a> Writer<'a> {
-    pub fn new(room: &'a mut [u8], at: usize) -> Writer<'a>
+    pub fn new(room: &'a mut [u8], at: usize) -> Self
         ensures { result ≡ writer room.entry at }
     {
         Writer { room, at }
@@ -27,6 +26,7 @@ impl<'a> Writer<'a> {
         self.at
     }
 
+    #[tactic(auto, unfolding(crate::specs::Written::append, crate::specs::Written::one))]
     pub fn octet(&mut self, octet: u8)
         ensures { self.new ≡ writes self.old (octet ∷ []) }
     {
@@ -44,28 +44,6 @@ impl<'a> Writer<'a> {
             self.octet(*octet);
         }
     }
-}
-
-#[tactic(auto, unfolding(crate::specs::Written::append, crate::specs::Written::one))]
-pub fn octet(out: &mut [u8], at: usize, octet: u8) -> usize
-    ensures { written out.new result ≡ append (written out.old at) (octet ∷ []) }
-{
-    if at < out.len() {
-        out[at] = octet;
-        return at + 1;
-    }
-    at
-}
-
-#[tactic(auto, unfolding(crate::specs::Written::append), using(crate::proofs::Written::one_octet_on))]
-pub fn octets(out: &mut [u8], at: usize, octets: &[u8]) -> usize
-    ensures { written out.new result ≡ append (written out.old at) octets.now }
-{
-    let mut next = at;
-    for one in octets {
-        next = octet(out, next, *one);
-    }
-    next
 }
 
 // Numbers into the first places of a row, if there is room for all of them; says whether there is.

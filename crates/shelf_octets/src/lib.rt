@@ -5,9 +5,11 @@ ghost use Rattle.std.specs.Prelude.{◌≡◌};
 ghost use Rattle.octets.specs.Octets.{digits};
 ghost use Rattle.shelf.specs.Shelves.{slot_at};
 ghost use Rattle.lent.specs.Written.{written, append};
+ghost use Rattle.lent.specs.Writers.{writes};
 ghost use Rattle.shelf_octets.specs.ShelfOctets.{year_in, raw_year, card_in, slot_in, shelf_in, octets_of_card, octets_of_slot, as_octets};
 
 use card::Card;
+use lent::Writer;
 use shelf::Shelf;
 
 // The shelf that octets say.
@@ -67,38 +69,47 @@ fn year_in(raw: u32) -> i32
 }
 
 // Writes the octets of a shelf at the start of a lent buffer, as far as there is room, and answers the index after them.
+#[tactic(auto, using(lent::proofs::Writers::at_last))]
 pub fn write(out: &mut [u8], shelf: Shelf) -> usize
     ensures { written out.new result ≡ append (written out.old 0) (as_octets shelf) }
 {
-    let mut next = 0;
-    for slot in shelf.slots {
-        next = write_slot(out, next, slot);
-    }
-    next
+    let mut writer = Writer::new(out, 0);
+    write_slots(&mut writer, shelf);
+    writer.at()
 }
 
-#[tactic(auto, unfolding(crate::specs::ShelfOctets::octets_of_slot))]
-fn write_slot(out: &mut [u8], at: usize, slot: Option<Card>) -> usize
-    ensures { written out.new result ≡ append (written out.old at) (octets_of_slot slot) }
+#[tactic(auto, using(lent::proofs::Writers::no_turn, lent::proofs::Writers::next_turn))]
+fn write_slots(out: &mut Writer, shelf: Shelf)
+    ensures { out.new ≡ writes out.old (as_octets shelf) }
+{
+    for slot in shelf.slots {
+        write_slot(out, slot);
+    }
+}
+
+#[tactic(auto, unfolding(crate::specs::ShelfOctets::octets_of_slot), using(lent::proofs::Writers::octet_then))]
+fn write_slot(out: &mut Writer, slot: Option<Card>)
+    ensures { out.new ≡ writes out.old (octets_of_slot slot) }
 {
     let Some(card) = slot else {
-        return lent::octets(out, at, &[0; 41]);
+        out.octets(&[0; 41]);
+        return;
     };
-    let next = lent::octet(out, at, 1);
-    write_card(out, next, card)
+    out.octet(1);
+    write_card(out, card);
 }
 
-fn write_card(out: &mut [u8], at: usize, card: Card) -> usize
-    ensures { written out.new result ≡ append (written out.old at) (octets_of_card card) }
+fn write_card(out: &mut Writer, card: Card)
+    ensures { out.new ≡ writes out.old (octets_of_card card) }
 {
-    let a = write_number(out, at, raw_year(card.year));
-    let b = lent::octet(out, a, card.month);
-    let c = lent::octet(out, b, card.day);
-    let d = lent::octet(out, c, card.hour);
-    let e = lent::octet(out, d, card.minute);
-    let f = lent::octet(out, e, card.second);
-    let g = write_number(out, f, card.issue);
-    lent::octets(out, g, &card.product)
+    write_number(out, raw_year(card.year));
+    out.octet(card.month);
+    out.octet(card.day);
+    out.octet(card.hour);
+    out.octet(card.minute);
+    out.octet(card.second);
+    write_number(out, card.issue);
+    out.octets(&card.product);
 }
 
 fn raw_year(year: i32) -> u32
@@ -109,8 +120,8 @@ fn raw_year(year: i32) -> u32
 
 // A number as four octets.
 #[tactic(auto, using(crate::proofs::Laws::octets_of_number))]
-fn write_number(out: &mut [u8], at: usize, n: u32) -> usize
-    ensures { written out.new result ≡ append (written out.old at) (digits 4 n) }
+fn write_number(out: &mut Writer, n: u32)
+    ensures { out.new ≡ writes out.old (digits 4 n) }
 {
-    lent::octets(out, at, &n.to_be_bytes())
+    out.octets(&n.to_be_bytes());
 }

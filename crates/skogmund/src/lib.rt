@@ -55,6 +55,6 @@ pub fn skogmund_list(queue: &[u8], text: &mut [u8], length: &mut [u64]) -> u64
     if !lent::numbers(length, &ends) {
         return NO_ROOM;
     }
-    lent::octets(text, 0, &room[..end]);
+    text[..end].copy_from_slice(&room[..end]);
     0
 }

@@ -7,8 +7,8 @@ use Rattle.octets.specs.Octets.{part}
 use Rattle.octets.proofs.Laws.{part-all}
 use Rattle.octets.proofs.Lists.{unmapped}
 use Rattle.octets.proofs.Signs.{kept32}
-use Rattle.lent.specs.Written.{append}
-use Rattle.lent.proofs.Written.{and_then}
+use Rattle.lent.specs.Writers.{writes}
+use Rattle.lent.proofs.Writers.{and_then}
 use Rattle.shelf_octets.specs.ShelfOctets.{octets_of_card}
 use Rattle.shelf_octets.proofs.write_card.Goals as goal
 
@@ -17,11 +17,11 @@ unfolding octets_of_card
 returns c =
     let length-is : length c.args.card.product ≡ 27 = search (rules, unmapped) in
     let product : part c.args.card.product 1 27 ≡ c.args.card.product = rw (length-is) at (part-all c.args.card.product) in
-    and_then _ _ _ (rw (c.raw_year.ensures, kept32 c.args.card.year (search rules)) at c.write_number-a.ensures)
-    (and_then _ _ _ c.octet-b.ensures
-    (and_then _ _ _ c.octet-c.ensures
-    (and_then _ _ _ c.octet-d.ensures
-    (and_then _ _ _ c.octet-e.ensures
-    (and_then _ _ _ c.octet-f.ensures
-    (and_then _ _ _ c.write_number-g.ensures
-    (c.octets.ensures ∙ ap (append _) (sym product))))))))
+    and_then _ _ _ (rw (c.raw_year.ensures, kept32 c.args.card.year (search rules)) at c.write_number.ensures)
+    (and_then _ _ _ c.octet.ensures
+    (and_then _ _ _ c.octet-2.ensures
+    (and_then _ _ _ c.octet-3.ensures
+    (and_then _ _ _ c.octet-4.ensures
+    (and_then _ _ _ c.octet-5.ensures
+    (and_then _ _ _ c.write_number-2.ensures
+    (c.octets.ensures ∙ ap (writes _) (sym product))))))))

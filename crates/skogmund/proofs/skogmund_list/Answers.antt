@@ -2,15 +2,14 @@
 -- Assumes nothing.
 use Prim.Native.Nat.{ℕ, ◌≤◌, ◌<◌}
 use native.Mathlib.Omega.{arith}
-use mathlib.Core.Path.{sym, ap, ap₂, ◌∙◌}
+use mathlib.Core.Path.{◌≡◌, sym, ap, ap₂, ◌∙◌}
 use mathlib.Core.Bool.{true, false}
-use mathlib.Core.List.{[], ◌∷◌}
-use lib.ListN.{length}
+use mathlib.Core.List.{List, [], ◌∷◌, ◌++◌}
+use lib.ListN.{length, drop}
 use lib.Seq.{length-take-le}
 use borrow.Author.Tests.{le-leb, lt-leb}
 use Rattle.lent.specs.Lent.{done_both, over}
-use Rattle.lent.specs.Written.{written, append}
-use Rattle.lent.proofs.Written.{starts-within, starts-to, starts-over, starts-front, append-whole}
+use Rattle.lent.proofs.Written.{starts-within, starts-to, starts-front}
 use Rattle.lent.proofs.Answers.{room-said}
 use Rattle.report.specs.Texts.{listing}
 use Rattle.skogmund.specs.Entries.{no_room, listing_told}
@@ -34,15 +33,20 @@ returns-then-not-numbers c =
 pub slice_bounds-room-end : goal.slice_bounds-room-end
 slice_bounds-room-end c = starts-within _ _ c.whole_listing-end.ensures
 
-pub slice_bounds-octets-end : goal.slice_bounds-octets-end
-slice_bounds-octets-end c = sym (length-take-le _ _ (starts-within _ _ c.whole_listing-end.ensures))
+pub slice_bounds-copy_from_slice-end-3 : goal.slice_bounds-copy_from_slice-end-3
+slice_bounds-copy_from_slice-end-3 c = sym (length-take-le _ _ (starts-within _ _ c.whole_listing-end.ensures))
+
+pub copy_from_slice-requires : goal.copy_from_slice-requires
+copy_from_slice-requires c =
+    length-take-le _ _ c.if-text-end.false ∙ sym (length-take-le _ _ (starts-within _ _ c.whole_listing-end.ensures))
 
 pub returns : goal.returns
 unfolding listing_told
 returns c =
-    let fits-text : length (listing c.args.queue.now) ≤ length c.args.text.now = omega (arith, starts-to _ _ c.whole_listing-end.ensures, c.if-text-end.false) in
     let a = c.args in
+    let to : c.whole_listing-end.result ≡ length (listing a.queue.now) = starts-to _ _ c.whole_listing-end.ensures in
     let h = room-said a.length.now (c.whole_listing-end.result ∷ []) c.numbers.ensures true (c.if-not-numbers.false) in
-    let text = c.octets.ensures ∙ ap (append (written a.text.now 0)) (starts-front _ _ c.whole_listing-end.ensures) ∙ append-whole a.text.now (listing a.queue.now) (fits-text) in
-    rw (le-leb _ _ (fits-text), h.0)
-    (ap₂ (done_both 0) (starts-over _ _ text) (h.1 ∙ ap (λ (k : ℕ). over a.length.now (k ∷ [])) (starts-to _ _ c.whole_listing-end.ensures)))
+    let front = c.copy_from_slice.ensures.after ∙ starts-front _ _ c.whole_listing-end.ensures in
+    let fits : length (listing a.queue.now) ≤ length a.text.now = omega (arith, to, c.if-text-end.false) in
+    rw (le-leb _ _ fits, h.0)
+    (ap₂ (done_both 0) (ap₂ (λ (t : List ℕ) (k : ℕ). t ++ drop k a.text.now) front to) (h.1 ∙ ap (λ (k : ℕ). over a.length.now (k ∷ [])) to))
