@@ -13,7 +13,7 @@ ghost use Rattle.report.specs.Texts.{counts_line, refused_line, card_line, slot_
 use card::Card;
 use filing::Change;
 use layout::Refusal;
-use queue::Counts;
+use queue::{Counts, Records};
 use shelf::{Shelf, Slot};
 
 // Room for a queue, and for one octet more than the longest may have, so that a longer one is told.
@@ -182,20 +182,11 @@ fn record_lines(out: &mut [u8], at: usize, queue: &[u8]) -> usize
 {
     let mut next = at;
     let mut shelf = Shelf::empty();
-    let mut k: u64 = 1;
-    let mut i: usize = 0;
-    while i < queue.len() {
-        let rest = &queue[i..];
-        let Some(head) = queue::record_of(rest) else {
-            return next;
-        };
-        let filed = queue::file_record(shelf, rest, head);
-        let issue = head.issue;
-        let answer = filed.answer;
-        next = record_line(out, next, k, head.slot, issue, answer);
+    for (i, sent) in Records::of(queue).enumerate() {
+        let head = sent.head;
+        let filed = queue::file_record(shelf, sent.octets, head);
+        next = record_line(out, next, i as u64 + 1, head.slot, head.issue, filed.answer);
         shelf = filed.shelf;
-        k += 1;
-        i += head.end;
     }
     next
 }
