@@ -22,7 +22,7 @@ pub struct Head {
 }
 
 // The record at the start of these octets, if one stands there.
-#[tactic(auto, using(cutting::proofs::Taken::taken, cutting::proofs::Walks::rest_at, filing::proofs::StoredIssues::too_large), unfolding(crate::specs::Records::record_of))]
+#[tactic(auto, using(cutting::proofs::Taken::taken, std::proofs::lemmas::List::take_rest, filing::proofs::StoredIssues::too_large), unfolding(crate::specs::Records::record_of))]
 pub fn record_of(octets: &[u8]) -> Option<Head>
     ensures { result ≡ record_of octets.now }
 {

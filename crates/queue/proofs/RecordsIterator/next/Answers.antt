@@ -6,7 +6,7 @@ use mathlib.Core.List.{List}
 use Prim.Native.Nat.{ℕ}
 use lib.ListN.{length}
 use Rattle.cutting.specs.Cuts.{Cut, in_front, cut_of}
-use Rattle.cutting.proofs.Walks.{rest-is}
+use Rattle.std.proofs.lemmas.List.{take_rest}
 use Rattle.queue.specs.Queues.{Sent, record_in, record_step}
 use Rattle.queue.specs.Walks.{cut_left}
 use Rattle.queue.proofs.Cuts.{given, none-given}
@@ -30,7 +30,7 @@ returns-clause-steps c =
     let s = c.args.self.now.rest.now in
     let h = c.in_ok-head.head in
     (given s h (sym c.in_ok-head.ensures)).cut
-    ∙ ap (λ (r : List ℕ). in_front (record_in s h) (cut_of record_step r)) (sym (rest-is s h.end))
+    ∙ ap (λ (r : List ℕ). in_front (record_in s h) (cut_of record_step r)) (sym (take_rest s h.end))
 
 pub returns-clause-goes : goal.returns-clause-goes
 unfolding cut_left
@@ -38,6 +38,6 @@ returns-clause-goes c =
     let s = c.args.self.now.rest.now in
     let h = c.in_ok-head.head in
     let step = (given s h (sym c.in_ok-head.ensures)).cut
-    ∙ ap (λ (r : List ℕ). in_front (record_in s h) (cut_of record_step r)) (sym (rest-is s h.end)) in
+    ∙ ap (λ (r : List ℕ). in_front (record_in s h) (cut_of record_step r)) (sym (take_rest s h.end)) in
     let shorter = ap (λ (x : Cut Sent). length x.items) step in
     search rules
