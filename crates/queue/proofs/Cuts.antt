@@ -9,6 +9,7 @@ use mathlib.Core.List.{List, [], ◌∷◌, ◌++◌}
 use lib.Dec.{ltb}
 use lib.ListN.{length, take, drop, length-drop, length-append}
 use lib.Seq.{take-append-le, drop-append-le}
+use Rattle.std.proofs.lemmas.List.{take_rest}
 use borrow.Author.Tests.{ltb-false, le-ltb, eq-eqb, ne_eqb}
 use Rattle.std.specs.Prelude.{Option, Some, None}
 use Rattle.cutting.specs.Numbers.{found, leading_number}
@@ -134,21 +135,24 @@ by-records P nothing one_more =
 
 -- ---- and a walk goes from record to record
 
--- a record stands there: it is given, and the rest is cut behind it
+-- a record stands there: it is given, and the rest, as it is lent, is cut behind it
 pub record Given (s : List ℕ) (h : Head) : Type 0 where
   pub inside : h.end ≤ length s
-  pub cut : cut_of record_step s ≡ in_front (record_in s h) (cut_of record_step (drop h.end s))
+  pub cut : cut_of record_step s ≡ in_front (record_in s h) (cut_of record_step (take (length s - h.end) (drop h.end s)))
 
 pub given : (s : List ℕ) (h : Head) → record_of s ≡ Some h → Given s h
 unfolding record_step
 given s h e =
     let here : record_step s ≡ item (record_in s h) h.end = ap (record_item s) e in
-    record { inside = (records-advance s _ _ here).inside; cut = cut-item record_step records-advance s _ _ here }
+    record {
+      inside = (records-advance s _ _ here).inside;
+      cut = cut-item record_step records-advance s _ _ here ∙ ap (λ (r : List ℕ). in_front (record_in s h) (cut_of record_step r)) (sym (take_rest s h.end));
+    }
 
 -- none does, there or at the end
-pub none-given : (s : List ℕ) → record_of s ≡ None → cut_of record_step s ≡ record { items = []; whole = at_end s }
+pub none_given : (s : List ℕ) → record_of s ≡ None → cut_of record_step s ≡ record { items = []; whole = at_end s }
 unfolding record_step
-none-given s e = by_length (dec_le 1 (length s))
+none_given s e = by_length (dec_le 1 (length s))
   where
     by_length : Dec (1 ≤ length s) → cut_of record_step s ≡ record { items = []; whole = at_end s }
     by_length (yes l) = cut-stopped record_step records-advance s l (ap (record_item s) e) ∙ ap (λ (t : Bool). record { items = []; whole = t }) (sym (ne_eqb (length s) 0 (λ z. omega arith)))

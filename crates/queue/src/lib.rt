@@ -76,6 +76,7 @@ impl<'a> Iterator for Records<'a> {
 
     ghost remaining = { item_count records_left };
 
+    #[tactic(auto, using(crate::proofs::Cuts::given, crate::proofs::Cuts::none_given), unfolding(crate::specs::Walks::cut_left))]
     fn next(&mut self) -> Option<Record<'a>> {
         let octets = self.rest;
         let head = record_of(octets)?;
