@@ -88,6 +88,7 @@ fn slot_lines(out: &mut [u8], at: usize, shelf: Shelf) -> usize
     next
 }
 
+#[tactic(auto, unfolding(crate::specs::Texts::slot_line, lent::specs::Written::append))]
 fn slot_line(out: &mut [u8], at: usize, i: usize, slot: Slot) -> usize
     ensures { written out.new result ≡ append (written out.old at) (slot_line i slot) }
 {
@@ -191,6 +192,7 @@ fn record_lines(out: &mut [u8], at: usize, queue: &[u8]) -> usize
     next
 }
 
+#[tactic(auto, using(lent::proofs::Written::and_then), unfolding(crate::specs::Texts::record_line))]
 fn record_line(
     out: &mut [u8],
     at: usize,
