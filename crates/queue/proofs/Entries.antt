@@ -4,8 +4,8 @@ use mathlib.Core.Path.{◌≡◌}
 use Rattle.queue.specs.Records.{record_of}
 use Rattle.queue.specs.Bodies.{body_of}
 use Rattle.cutting.specs.Cuts.{cut_of}
-use Rattle.queue.specs.Walks.{cut_left}
-use Rattle.queue.specs.Queues.{checked, record_in, record_step, record_filed, queue_filed}
+use Rattle.queue.specs.Walks.{cut_left, sent_in}
+use Rattle.queue.specs.Queues.{checked, record_step, record_filed, queue_filed}
 use Rattle.entry.specs.Entry.{Entry}
 use Rattle.queue.proofs as code
 
@@ -21,7 +21,7 @@ body-of = record { takes = λ lent given. tt; ends = code.body_of.Met.met; tells
 pub check : Entry code.check.Reads.Asked code.check.Reads.Learnt code.check.Statement.statement (λ given r later. r ≡ checked given.0.now)
 check = record { takes = λ lent given. tt; ends = code.check.Met.met; tells = λ lent given r later e. e }
 
-pub file-record : Entry code.file_record.Reads.Asked code.file_record.Reads.Learnt code.file_record.Statement.statement (λ given r later. r ≡ record_filed given.0 (record_in given.1.0.now given.1.1.0))
+pub file-record : Entry code.file_record.Reads.Asked code.file_record.Reads.Learnt code.file_record.Statement.statement (λ given r later. r ≡ record_filed given.0 (sent_in given.1.0))
 file-record = record { takes = λ lent given. tt; ends = code.file_record.Met.met; tells = λ lent given r later e. e }
 
 pub file : Entry code.file.Reads.Asked code.file.Reads.Learnt code.file.Statement.statement (λ given r later. r ≡ queue_filed given.0 given.1.0.now)

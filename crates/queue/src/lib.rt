@@ -6,7 +6,7 @@ ghost use Rattle.cutting.specs.Cuts.{cut_of};
 ghost use Rattle.queue.specs.Records.{record_of};
 ghost use Rattle.queue.specs.Bodies.{body_of};
 ghost use Rattle.queue.specs.Walks.{cut_left, sent_in};
-ghost use Rattle.queue.specs.Queues.{record_in, record_filed, record_step, three_together, one_more, records_filed, from_start, checked, queue_filed};
+ghost use Rattle.queue.specs.Queues.{record_filed, record_step, three_together, one_more, records_filed, from_start, checked, queue_filed};
 
 use filing::{Change, Filed};
 use layout::Refusal;
@@ -115,13 +115,13 @@ pub fn body_of(octets: &[u8]) -> Option<Ends>
     })
 }
 
-// Files the record whose head this is and which stands at the start of these octets: 20, or as its five sections are filed. They are
-// parts of what is lent, and only the card's octets are copied.
+// Files a record: 20, or as its five sections are filed. They are parts of what is lent, and only the card's octets are copied.
 #[tactic(auto, unfolding(crate::specs::Queues::record_filed, crate::specs::Queues::record_filing, crate::specs::Queues::body_filing, filing::specs::Filing::filed_by, filing::specs::Filing::filed_of))]
-pub fn file_record(shelf: Shelf, octets: &[u8], head: Head) -> Filed
-    ensures { result ≡ record_filed shelf (record_in octets.now head) }
+pub fn file_record(shelf: Shelf, sent: Record) -> Filed
+    ensures { result ≡ record_filed shelf (sent_in sent.entry) }
 {
-    let body = cutting::stretch(octets, head.start, head.end);
+    let head = sent.head;
+    let body = cutting::stretch(sent.octets, head.start, head.end);
     let Some(ends) = body_of(body) else {
         return Filed {
             shelf,
@@ -200,7 +200,7 @@ fn file_next(progress: Progress, sent: Record) -> Progress
     requires { three_together progress.counts < 2 ^ 63 }
     ensures { result ≡ one_more progress.counts (record_filed progress.shelf (sent_in sent.entry)) }
 {
-    let filed = file_record(progress.shelf, sent.octets, sent.head);
+    let filed = file_record(progress.shelf, sent);
     let shelf = filed.shelf;
     let answer = filed.answer;
     let mut counts = progress.counts;

@@ -185,7 +185,7 @@ fn record_lines(out: &mut [u8], at: usize, queue: &[u8]) -> usize
     let mut shelf = Shelf::empty();
     for (i, sent) in Records::of(queue).enumerate() {
         let head = sent.head;
-        let filed = queue::file_record(shelf, sent.octets, head);
+        let filed = queue::file_record(shelf, sent);
         next = record_line(out, next, i as u64 + 1, head.slot, head.issue, filed.answer);
         shelf = filed.shelf;
     }
