@@ -2,7 +2,6 @@ pub mod Numbers
 pub mod OneSpelling
 pub mod Taken
 pub mod Cuts
-pub mod Walks
 pub mod Strung
 pub mod Sections
 pub mod Entries

@@ -1,21 +1,22 @@
 -- The records of a queue as items that it is cut into: where one stands, and that it is the same whatever stands behind it.
 -- Assumes nothing.
-use Prim.Native.Nat.{ℕ, ◌+◌, ◌-◌, ◌≤◌, ◌<◌}
+use Prim.Native.Nat.{ℕ, ◌+◌, ◌-◌, ◌≤◌}
 use native.Mathlib.Omega.{arith}
+use native.Mathlib.Decide.{dec_le}
 use mathlib.Core.Path.{◌≡◌, refl, ap, sym, subst, ◌∙◌}
 use mathlib.Core.Bool.{Bool, true, false, cond}
 use mathlib.Core.List.{List, [], ◌∷◌, ◌++◌}
 use lib.Dec.{ltb}
 use lib.ListN.{length, take, drop, length-drop, length-append}
 use lib.Seq.{take-append-le, drop-append-le}
-use borrow.Author.Tests.{ltb-false, le-ltb}
+use Rattle.std.proofs.lemmas.List.{take_rest}
+use borrow.Author.Tests.{ltb-false, le-ltb, eq-eqb, ne_eqb}
 use Rattle.std.specs.Prelude.{Option, Some, None}
 use Rattle.cutting.specs.Numbers.{found, leading_number}
-use Rattle.cutting.specs.Cuts.{item, cut_of}
+use Rattle.cutting.specs.Cuts.{item, in_front, at_end, cut_of}
 use Rattle.cutting.proofs.Taken.{taken, number-stands, number-ahead, number-after}
-use Rattle.cutting.proofs.Cuts.{Advances, by-cut}
+use Rattle.cutting.proofs.Cuts.{Advances, cut-item, cut-stopped, cut-end, by-cut}
 use Rattle.cutting.proofs.Strung.{LooksNoFurther}
-use Rattle.cutting.proofs.Walks.{WalksOn, rest_at, walk-on, walk-stopped, walk_end}
 use Rattle.filing.specs.Filing.{issue_from}
 use Rattle.queue.specs.Records.{record_of}
 use Rattle.queue.specs.Queues.{Sent, record_in, record_item, record_step}
@@ -134,18 +135,33 @@ by-records P nothing one_more =
 
 -- ---- and a walk goes from record to record
 
--- a record stands there
-abbrev pub RecordAt : List ℕ → ℕ → Head → Type 0
-RecordAt q at h = WalksOn record_step q at (record_in (rest_at q at) h) h.end
+-- a record stands there: it is given, and the rest, as it is lent, is cut behind it
+pub record Given (s : List ℕ) (h : Head) : Type 0 where
+  pub inside : h.end ≤ length s
+  pub cut : cut_of record_step s ≡ in_front (record_in s h) (cut_of record_step (take (length s - h.end) (drop h.end s)))
 
-pub record-at : (q : List ℕ) (at : ℕ) (h : Head) → at ≤ length q → record_of (rest_at q at) ≡ Some h → RecordAt q at h
+pub given : (s : List ℕ) (h : Head) → record_of s ≡ Some h → Given s h
 unfolding record_step
-record-at q at h l e = walk-on record_step records-advance q at (record_in (rest_at q at) h) h.end l (ap (record_item (rest_at q at)) e)
+given s h e =
+    let here : record_step s ≡ item (record_in s h) h.end = ap (record_item s) e in
+    record {
+      inside = (records-advance s _ _ here).inside;
+      cut = cut-item record_step records-advance s _ _ here ∙ ap (λ (r : List ℕ). in_front (record_in s h) (cut_of record_step r)) (sym (take_rest s h.end));
+    }
 
--- none does, or the end
-pub no-record-at : (q : List ℕ) (at : ℕ) → at < length q → record_of (rest_at q at) ≡ None → cut_of record_step (drop at q) ≡ record { items = []; whole = false }
+-- none does, there or at the end
+pub none_given : (s : List ℕ) → record_of s ≡ None → cut_of record_step s ≡ record { items = []; whole = at_end s }
 unfolding record_step
-no-record-at q at l e = walk-stopped record_step records-advance q at l (ap (record_item (rest_at q at)) e)
+none_given s e = by_length (dec_le 1 (length s))
+  where
+    by_length : Dec (1 ≤ length s) → cut_of record_step s ≡ record { items = []; whole = at_end s }
+    by_length (yes l) = cut-stopped record_step records-advance s l (ap (record_item s) e) ∙ ap (λ (t : Bool). record { items = []; whole = t }) (sym (ne_eqb (length s) 0 (λ z. omega arith)))
+    by_length (no l) =
+        let nothing : length s ≡ 0 = omega arith in
+        cut-end record_step records-advance s (omega arith) ∙ ap (λ (t : Bool). record { items = []; whole = t }) (sym (eq-eqb (length s) 0 nothing))
 
-pub end-at : (q : List ℕ) (at : ℕ) → length q ≤ at → cut_of record_step (drop at q) ≡ record { items = []; whole = true }
-end-at = walk_end record_step records-advance
+-- each has an octet of its own
+pub records-few : (q : List ℕ) → length (cut_of record_step q).items ≤ length q
+records-few =
+    by-cut record_step records-advance (λ s rs. length rs ≤ length s) (λ s. omega arith)
+    (λ s x end rs e few. let i = records-advance s x end e in omega (arith, few, i.some, i.inside, length-drop end s))

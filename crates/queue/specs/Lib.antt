@@ -1,6 +1,7 @@
 pub mod Records
 pub mod Bodies
 pub mod Queues
+pub mod Walks
 pub mod Counting
 pub mod History
 pub mod Examples

@@ -5,7 +5,8 @@ ghost use Rattle.std.specs.Prelude.{◌≡◌, ◌^◌, ◌<◌};
 ghost use Rattle.cutting.specs.Cuts.{cut_of};
 ghost use Rattle.queue.specs.Records.{record_of};
 ghost use Rattle.queue.specs.Bodies.{body_of};
-ghost use Rattle.queue.specs.Queues.{record_in, record_filed, record_step, three_together, one_more, records_filed, from_start, checked, queue_filed};
+ghost use Rattle.queue.specs.Walks.{cut_left, sent_in};
+ghost use Rattle.queue.specs.Queues.{record_filed, record_step, three_together, one_more, records_filed, from_start, checked, queue_filed};
 
 use filing::{Change, Filed};
 use layout::Refusal;
@@ -21,7 +22,7 @@ pub struct Head {
 }
 
 // The record at the start of these octets, if one stands there.
-#[tactic(auto, using(cutting::proofs::Taken::taken, cutting::proofs::Walks::rest_at, filing::proofs::StoredIssues::too_large), unfolding(crate::specs::Records::record_of))]
+#[tactic(auto, using(cutting::proofs::Taken::taken, std::proofs::lemmas::List::take_rest, filing::proofs::StoredIssues::too_large), unfolding(crate::specs::Records::record_of))]
 pub fn record_of(octets: &[u8]) -> Option<Head>
     ensures { result ≡ record_of octets.now }
 {
@@ -40,6 +41,48 @@ pub fn record_of(octets: &[u8]) -> Option<Head>
         start,
         end,
     })
+}
+
+// A record of a queue: the octets from its first one on, and its head.
+#[derive(Clone, Copy)]
+pub struct Record<'a> {
+    pub octets: &'a [u8],
+    pub head: Head,
+}
+
+// A walk over the records of a queue, one after the other, up to its end or to where no record stands.
+#[derive(Clone, Copy)]
+pub struct Records<'a> {
+    rest: &'a [u8],
+}
+
+impl<'a> Records<'a> {
+    // From the start of a queue.
+    #[tactic(auto, unfolding(crate::specs::Walks::cut_left))]
+    pub fn of(queue: &'a [u8]) -> Records<'a>
+        ensures { cut_left result ≡ cut_of record_step queue.now }
+    {
+        Records { rest: queue }
+    }
+}
+
+impl<'a> Iterator for Records<'a> {
+    ghost use Rattle.std.specs.Iterator.{item_count};
+    ghost use Rattle.queue.specs.Walks.{records_left, GivesRecord};
+
+    type Item = Record<'a>;
+
+    ghost next_gives = { GivesRecord };
+
+    ghost remaining = { item_count records_left };
+
+    #[tactic(auto, using(crate::proofs::Cuts::given, crate::proofs::Cuts::none_given), unfolding(crate::specs::Walks::cut_left))]
+    fn next(&mut self) -> Option<Record<'a>> {
+        let octets = self.rest;
+        let head = record_of(octets)?;
+        self.rest = &octets[head.end..];
+        Some(Record { octets, head })
+    }
 }
 
 // Where sections 1, 3, 4 and 5 of a body end: the index after each one's last octet, at which the next one starts.
@@ -72,13 +115,13 @@ pub fn body_of(octets: &[u8]) -> Option<Ends>
     })
 }
 
-// Files the record whose head this is and which stands at the start of these octets: 20, or as its five sections are filed. They are
-// parts of what is lent, and only the card's octets are copied.
+// Files a record: 20, or as its five sections are filed. They are parts of what is lent, and only the card's octets are copied.
 #[tactic(auto, unfolding(crate::specs::Queues::record_filed, crate::specs::Queues::record_filing, crate::specs::Queues::body_filing, filing::specs::Filing::filed_by, filing::specs::Filing::filed_of))]
-pub fn file_record(shelf: Shelf, octets: &[u8], head: Head) -> Filed
-    ensures { result ≡ record_filed shelf (record_in octets.now head) }
+pub fn file_record(shelf: Shelf, sent: Record) -> Filed
+    ensures { result ≡ record_filed shelf (sent_in sent.entry) }
 {
-    let body = cutting::stretch(octets, head.start, head.end);
+    let head = sent.head;
+    let body = cutting::stretch(sent.octets, head.start, head.end);
     let Some(ends) = body_of(body) else {
         return Filed {
             shelf,
@@ -153,11 +196,11 @@ pub fn check(queue: &[u8]) -> Result<(), Refusal>
 }
 
 // One record more: it counts once, as it is answered.
-fn file_next(progress: Progress, octets: &[u8], head: Head) -> Progress
+fn file_next(progress: Progress, sent: Record) -> Progress
     requires { three_together progress.counts < 2 ^ 63 }
-    ensures { result ≡ one_more progress.counts (record_filed progress.shelf (record_in octets.now head)) }
+    ensures { result ≡ one_more progress.counts (record_filed progress.shelf (sent_in sent.entry)) }
 {
-    let filed = file_record(progress.shelf, octets, head);
+    let filed = file_record(progress.shelf, sent);
     let shelf = filed.shelf;
     let answer = filed.answer;
     let mut counts = progress.counts;
@@ -173,14 +216,9 @@ fn file_next(progress: Progress, octets: &[u8], head: Head) -> Progress
 fn well_cut(queue: &[u8]) -> bool
     ensures { result ≡ (cut_of record_step queue.now).whole }
 {
-    let mut i: usize = 0;
-    while i < queue.len() {
-        let Some(head) = record_of(&queue[i..]) else {
-            return false;
-        };
-        i += head.end;
-    }
-    true
+    let mut records = Records::of(queue);
+    while records.next().is_some() {}
+    records.rest.is_empty()
 }
 
 // Files the records of a queue one after the other, up to its end or to where no record stands.
@@ -195,14 +233,8 @@ fn file_records(shelf: Shelf, queue: &[u8]) -> Progress
             refused: 0,
         },
     };
-    let mut at: usize = 0;
-    while at < queue.len() {
-        let rest = &queue[at..];
-        let Some(head) = record_of(rest) else {
-            return progress;
-        };
-        progress = file_next(progress, rest, head);
-        at += head.end;
+    for sent in Records::of(queue) {
+        progress = file_next(progress, sent);
     }
     progress
 }

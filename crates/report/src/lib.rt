@@ -15,7 +15,7 @@ use card::Card;
 use filing::Change;
 use layout::Refusal;
 use lent::Writer;
-use queue::Counts;
+use queue::{Counts, Records};
 use shelf::Shelf;
 
 // Room for a queue, and for one octet more than the longest may have, so that a longer one is told.
@@ -177,20 +177,11 @@ fn record_lines(out: &mut Writer, queue: &[u8])
     ensures { out.new ≡ writes out.old (record_lines 1 empty_shelf (cut_of record_step queue.now).items) }
 {
     let mut shelf = Shelf::empty();
-    let mut k: u64 = 1;
-    let mut i: usize = 0;
-    while i < queue.len() {
-        let rest = &queue[i..];
-        let Some(head) = queue::record_of(rest) else {
-            return;
-        };
-        let filed = queue::file_record(shelf, rest, head);
-        let issue = head.issue;
-        let answer = filed.answer;
-        record_line(out, k, head.slot, issue, answer);
+    for (i, sent) in Records::of(queue).enumerate() {
+        let head = sent.head;
+        let filed = queue::file_record(shelf, sent);
+        record_line(out, i as u64 + 1, head.slot, head.issue, filed.answer);
         shelf = filed.shelf;
-        k += 1;
-        i += head.end;
     }
 }
 

@@ -1,56 +1,43 @@
--- `file_records`: from record to record, each filed to the shelf that the one before it left.
+-- `file_records`: what is filed, and what is left to file, are together the queue's.
 -- Assumes nothing.
-use Prim.Native.Nat.{◌+◌}
 use native.Mathlib.Omega.{arith}
-use mathlib.Core.Path.{refl, ap, sym, ◌∙◌}
-use lib.ListN.{drop}
-use Rattle.cutting.specs.Cuts.{Cut, cut_of}
-use Rattle.cutting.proofs.Walks.{rest_at}
-use Rattle.queue.specs.Queues.{Sent, record_in, record_filed, record_step, records_filed, three_together}
+use mathlib.Core.Path.{◌≡◌, ap, sym, ◌∙◌}
+use mathlib.Core.List.{List, ◌∷◌}
+use Prim.Native.Nat.{ℕ}
+use lib.ListN.{length}
+use Rattle.cutting.specs.Cuts.{Cut}
+use Rattle.queue.specs.Queues.{Sent, record_filed, one_more, records_filed, three_together}
+use Rattle.queue.specs.Walks.{cut_left}
 use Rattle.queue.specs.declared.Progress.{Progress}
 use Rattle.queue.proofs.Counting.{one-more}
-use Rattle.queue.proofs.Cuts.{RecordAt, record-at, no-record-at, end-at}
+use Rattle.queue.proofs.Cuts.{records-few}
+use Rattle.queue.proofs.file_records.Invariants.{Inv}
 use Rattle.queue.proofs.file_records.Goals as goal
 
-pub loop-at-init : goal.loop-at-init
-loop-at-init c = record { inside = omega arith; few = omega arith; so_far = refl }
+-- the records that are left
+abbrev items_of : Cut Sent → List Sent
+items_of c = c.items
 
-pub returns-in_default : goal.returns-in_default
+-- one less is left, and one more is filed
+one_less : (queue : List ℕ) (first before after : Progress) (left rest : List Sent) (r : Sent) → Inv queue first before left → left ≡ r ∷ rest → after ≡ one_more before.counts (record_filed before.shelf r)
+    → Inv queue first after rest
 unfolding records_filed
-returns-in_default c =
-    let broken = no-record-at c.args.queue.now c.loop-at.at c.loop-at-test.true (sym c.record_of.ensures ∙ c.in_default.is) in
-    sym (ap (λ (x : Cut Sent). records_filed c.loop-at.progress x.items) broken) ∙ c.loop-at.invariant.so_far
-
-pub file_next-progress-requires : goal.file_next-progress-requires
-file_next-progress-requires c =
-    omega (arith, c.loop-at.invariant.few, c.loop-at.invariant.inside, c.well_formed)
-
-pub overflow_add-at : goal.overflow_add-at
-overflow_add-at c =
-    let on : RecordAt c.args.queue.now c.loop-at.at c.in-Some.head = record-at c.args.queue.now c.loop-at.at _ c.loop-at.invariant.inside (sym c.record_of.ensures ∙ c.in-Some.is) in
-    omega (arith, (on).inside, c.well_formed)
-
-pub loop-at-smaller : goal.loop-at-smaller
-loop-at-smaller c =
-    let on : RecordAt c.args.queue.now c.loop-at.at c.in-Some.head = record-at c.args.queue.now c.loop-at.at _ c.loop-at.invariant.inside (sym c.record_of.ensures ∙ c.in-Some.is) in
-    omega (arith, (on).more, (on).inside)
-
-pub loop-at-preserved : goal.loop-at-preserved
-unfolding records_filed
-loop-at-preserved c =
-    let on : RecordAt c.args.queue.now c.loop-at.at c.in-Some.head = record-at c.args.queue.now c.loop-at.at _ c.loop-at.invariant.inside (sym c.record_of.ensures ∙ c.in-Some.is) in
-    let q = c.args.queue.now in
-    let sent = record_in (rest_at q c.loop-at.at) c.in-Some.head in
-    let filed = record_filed c.loop-at.progress.shelf sent in
+one_less queue first before after left rest r v e f =
+    let answer = (record_filed before.shelf r).answer in
     record {
-      inside = (on).inside;
-      few = omega (arith, ap (λ (p : Progress). three_together p.counts) c.file_next-progress.ensures, one-more c.loop-at.progress.counts filed.answer, c.loop-at.invariant.few, (on).more);
-      so_far = ap (λ (p : Progress). records_filed p (cut_of record_step (drop (c.loop-at.at + c.in-Some.head.end) q)).items) c.file_next-progress.ensures
-          ∙ sym (ap (λ (x : Cut Sent). records_filed c.loop-at.progress x.items) (on).cut)
-          ∙ c.loop-at.invariant.so_far;
+      few = omega (arith, v.few, ap length e, ap (λ (p : Progress). three_together p.counts) f, one-more before.counts answer);
+      so_far = ap (λ (p : Progress). records_filed p rest) f ∙ sym (ap (records_filed before) e) ∙ v.so_far;
     }
+
+pub loop-sent-init : goal.loop-sent-init
+loop-sent-init c =
+    let all = ap items_of (ap cut_left c.into_iter-sent-iterator.ensures.into_iter_gives ∙ c.of-sent-items.ensures) in
+    record { few = omega (arith, ap length all, records-few c.args.queue.now); so_far = ap (records_filed _) all }
+
+pub loop-sent-preserved : goal.loop-sent-preserved
+loop-sent-preserved c =
+    one_less c.args.queue.now _ c.loop-sent.progress _ _ _ _ c.loop-sent.invariant (ap items_of c.in-Some.ensures.steps) c.file_next-progress.ensures
 
 pub returns : goal.returns
 unfolding records_filed
-returns c =
-    sym (ap (λ (x : Cut Sent). records_filed c.loop-at.progress x.items) (end-at c.args.queue.now c.loop-at.at c.loop-at-test.false)) ∙ c.loop-at.invariant.so_far
+returns c = sym (ap (records_filed c.loop-sent.progress) (ap items_of c.in-None.ensures.steps.0)) ∙ c.loop-sent.invariant.so_far

@@ -1,22 +1,18 @@
--- `file_records`: from record to record, each filed to the shelf that the one before it left.
+-- `file_records`: what is filed, and what is left to file, are together the queue's.
 -- Assumes nothing.
-use Prim.Native.Nat.{ℕ, ◌-◌, ◌≤◌}
+use Prim.Native.Nat.{ℕ, ◌+◌, ◌≤◌}
 use mathlib.Core.Path.{◌≡◌}
 use mathlib.Core.List.{List}
-use lib.ListN.{length, drop}
+use lib.ListN.{length}
 use Rattle.cutting.specs.Cuts.{cut_of}
-use Rattle.queue.specs.Queues.{record_step, records_filed, three_together}
+use Rattle.queue.specs.Queues.{Sent, record_step, records_filed, three_together}
+use Rattle.queue.specs.Walks.{records_left}
 use Rattle.queue.specs.declared.Progress.{Progress}
 use Rattle.queue.proofs.file_records.Given as goal
 
--- what is filed, and what is left to file, are together the queue's
-pub record Inv (queue : List ℕ) (first : Progress) (progress : Progress) (at : ℕ) : Type 0 where
-  pub inside : at ≤ length queue
-  pub few : three_together progress.counts ≤ at
-  pub so_far : records_filed progress (cut_of record_step (drop at queue)).items ≡ records_filed first (cut_of record_step queue).items
+pub record Inv (queue : List ℕ) (first progress : Progress) (left : List Sent) : Type 0 where
+  pub few : three_together progress.counts + length left ≤ length queue
+  pub so_far : records_filed progress left ≡ records_filed first (cut_of record_step queue).items
 
-abbrev pub invariant-loop-at : goal.invariant-loop-at
-invariant-loop-at l = Inv l.queue l.initial.progress l.progress l.at
-
-abbrev pub decreases-loop-at : goal.decreases-loop-at
-decreases-loop-at l = length l.queue - l.at
+abbrev pub invariant-loop-sent : goal.invariant-loop-sent
+invariant-loop-sent l = Inv l.queue l.initial.progress l.progress (records_left l.sent-iterator)

@@ -1,19 +1,10 @@
--- `well_cut`: from record to record, up to the end or to where no record stands.
+-- `well_cut`: from record to record, what is left is whole if the queue is.
 -- Assumes nothing.
-use Prim.Native.Nat.{ℕ, ◌-◌, ◌≤◌}
 use mathlib.Core.Path.{◌≡◌}
-use mathlib.Core.List.{List}
-use lib.ListN.{length, drop}
 use Rattle.cutting.specs.Cuts.{cut_of}
 use Rattle.queue.specs.Queues.{record_step}
+use Rattle.queue.specs.Walks.{cut_left}
 use Rattle.queue.proofs.well_cut.Given as goal
 
-pub record Inv (queue : List ℕ) (i : ℕ) : Type 0 where
-  pub inside : i ≤ length queue
-  pub so_far : (cut_of record_step (drop i queue)).whole ≡ (cut_of record_step queue).whole
-
-abbrev pub invariant-loop-i : goal.invariant-loop-i
-invariant-loop-i l = Inv l.queue l.i
-
-abbrev pub decreases-loop-i : goal.decreases-loop-i
-decreases-loop-i l = length l.queue - l.i
+abbrev pub invariant-loop : goal.invariant-loop
+invariant-loop l = (cut_left l.records).whole ≡ (cut_of record_step l.queue).whole
