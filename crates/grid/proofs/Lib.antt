@@ -13,3 +13,4 @@ pub mod WithoutTwelve
 pub mod OffsetRows
 pub mod Reading
 pub mod Listed
+pub mod Missing

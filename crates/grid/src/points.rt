@@ -8,7 +8,7 @@ ghost use Rattle.grid.specs.Points.{sum_of, points_without_list, points_of, poin
 use crate::templates::{Template, base_end};
 use layout::{Refusal, Width};
 
-// Of a section that has passed all other checks, of which these are what is needed.
+// Of a section that has passed the checks before this one.
 #[tactic(auto, unfolding(layout::specs::Outcomes::first_refusal))]
 pub(crate) fn check_points(section: &[u8], template: Template) -> Result<(), Refusal>
     requires small { length section.now ≤ 65536 }
@@ -23,7 +23,7 @@ pub(crate) fn check_points(section: &[u8], template: Template) -> Result<(), Ref
     }
 }
 
-// What octets 7-10 have to be: the sum of the list, or what they have to be without one.
+// What octets 7-10 have to be: the sum of the list, whose numbers have as many octets as octet 11 says, or what they have to be without one.
 #[tactic(auto, using(crate::proofs::Listed::summed, crate::proofs::Listed::not_summed, crate::proofs::Widths::base_small))]
 fn points_of(section: &[u8], template: Template) -> u64
     requires small { length section.now ≤ 65536 }

@@ -55,24 +55,23 @@ pub(crate) fn has_list(width: u8) -> bool
 }
 
 // Whether the four octets from octet `at` on are all ones.
+#[tactic(auto, using(crate::proofs::Missing::is_missing_none))]
 pub(crate) fn missing(section: &[u8], at: usize) -> bool
     ensures { result ≡ is_missing (be_at section.now at 4) }
 {
-    octets::u32_at(section, at) == 0xffff_ffff
+    layout::or_missing::<u32>(section, at).is_none()
 }
 
 // Nj numbers if Ni is missing, else Ni numbers.
-#[tactic(auto, unfolding(crate::specs::Templates::list_count))]
+#[tactic(auto, using(crate::proofs::Missing::ni_or_nj), unfolding(crate::specs::Templates::list_count))]
 fn list_count(section: &[u8]) -> u32
     ensures { result ≡ list_count section.now }
 {
     if octets::u8_at(section, 11) == 0 {
         return 0;
     }
-    if missing(section, 31) {
-        return octets::u32_at(section, 35);
-    }
-    octets::u32_at(section, 31)
+    let ni = layout::or_missing::<u32>(section, 31);
+    ni.unwrap_or(octets::u32_at(section, 35))
 }
 
 // The octets of a section's list, which its own numbers say.

@@ -4,45 +4,26 @@ use Prim.Native.Nat.{ℕ}
 use mathlib.Core.Path.{◌≡◌, refl}
 use mathlib.Core.List.{List}
 use lib.ListN.{get_or}
-use lib.IntN.{nat_abs}
-use Rattle.layout.specs.Fields.{Value, none, missing, is, which, whole_in, natural_in}
+use Rattle.layout.specs.Fields.{Value, none, whole_in, natural_in}
 use Rattle.layout.specs.Time.{time_in}
 use Rattle.layout.specs.Outcomes.{told}
 use Rattle.layout.specs.declared.Refusal.{Refusal}
-use Rattle.layout.proofs.Untold.{to_time, told_back, one_answer}
+use Rattle.layout.proofs.Untold.{to32, to_signed, to_time, told_back, one_answer}
 use Rattle.std.specs.Prelude.{ℤ, Option, Some, None, Result}
 use Rattle.identification.specs.Section1.{values_in, number_in, calendar_in, offset_in, outcome₁}
 use Rattle.identification.specs.declared.Identification.{Identification}
 
 -- ---- fields that a template may lack
 
-abbrev pub to_number : Value → Option ℕ
-to_number none = None
-to_number missing = None
-to_number (is z) = Some (nat_abs z)
-to_number (which n) = None
-
-abbrev pub to_calendar : Value → Option ℕ
-to_calendar none = None
-to_calendar missing = None
-to_calendar (is z) = Some (nat_abs z)
-to_calendar (which n) = None
-
-abbrev pub to_offset : Value → Option ℤ
-to_offset none = None
-to_offset missing = None
-to_offset (is z) = Some z
-to_offset (which n) = None
-
-number-back : (x : Option ℕ) → to_number (number_in x) ≡ x
+number-back : (x : Option ℕ) → to32 (number_in x) ≡ x
 number-back None = refl
 number-back (Some n) = refl
 
-calendar-back : (x : Option ℕ) → to_calendar (calendar_in x) ≡ x
+calendar-back : (x : Option ℕ) → to32 (calendar_in x) ≡ x
 calendar-back None = refl
 calendar-back (Some n) = refl
 
-offset-back : (x : Option ℤ) → to_offset (offset_in x) ≡ x
+offset-back : (x : Option ℤ) → to_signed (offset_in x) ≡ x
 offset-back None = refl
 offset-back (Some z) = refl
 
@@ -62,9 +43,9 @@ to_identification vs =
       time = to_time vs 8;
       status = natural_in (get_or vs 13 none);
       data_type = natural_in (get_or vs 14 none);
-      template = to_number (get_or vs 15 none);
-      calendar = to_calendar (get_or vs 16 none);
-      offset = to_offset (get_or vs 17 none);
+      template = to32 (get_or vs 15 none);
+      calendar = to32 (get_or vs 16 none);
+      offset = to_signed (get_or vs 17 none);
       real_year = whole_in (get_or vs 18 none);
     }
 

@@ -7,12 +7,13 @@ use lib.ListN.{get_or}
 use Rattle.octets.specs.Octets.{be_at}
 use Rattle.layout.specs.Fields.{Value, none, is, whole_in, means, placed, values_of}
 use Rattle.layout.specs.Time.{time}
+use Rattle.layout.proofs.Untold.{to32, to_signed}
 use Rattle.identification.specs.Section1.{fields₁, origin, year_meaning, status_and_type, template_fields, real_year_at, values₁, values_in}
 use Rattle.identification.specs.Means.{year_meant, number_meant, calendar_meant, offset_meant, real_year_meant, Means₁}
 use Rattle.identification.specs.declared.Template.{Template}
 use Rattle.identification.specs.declared.Template.TheVariants.{None as no_template, Calendar, Offset, CalendarAndOffset}
 use Rattle.identification.specs.declared.Identification.{Identification}
-use Rattle.identification.proofs.AnswersDetermined.{to_number, to_calendar, to_offset, to_identification, identification-back}
+use Rattle.identification.proofs.AnswersDetermined.{to_identification, identification-back}
 
 -- ---- what the template decides
 
@@ -26,8 +27,8 @@ year-means CalendarAndOffset s = refl
 abbrev last : Template → List ℕ → List Value
 last template s = values_of (placed 0 22 (template_fields template)) s ++ (is (real_year_at template s) ∷ [])
 
-last-means : (template : Template) (s : List ℕ) → (to_number (get_or (last template s) 0 none) ≡ number_meant template s) × (to_calendar (get_or (last template s) 1 none) ≡ calendar_meant template s)
-    × (to_offset (get_or (last template s) 2 none) ≡ offset_meant template s) × (whole_in (get_or (last template s) 3 none) ≡ real_year_meant template s)
+last-means : (template : Template) (s : List ℕ) → (to32 (get_or (last template s) 0 none) ≡ number_meant template s) × (to32 (get_or (last template s) 1 none) ≡ calendar_meant template s)
+    × (to_signed (get_or (last template s) 2 none) ≡ offset_meant template s) × (whole_in (get_or (last template s) 3 none) ≡ real_year_meant template s)
 unfolding values_of placed real_year_at
 last-means no_template s = (refl, refl, refl, refl)
 last-means Calendar s = (refl, refl, refl, refl)
