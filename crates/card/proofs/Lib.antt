@@ -1,7 +1,6 @@
 pub mod Strict
 pub mod Lex
 pub mod Cards
-pub mod Octets
 pub mod Derived
 pub mod Made
 pub mod Entries

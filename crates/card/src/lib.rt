@@ -23,8 +23,7 @@ pub struct Card {
 pub fn product_at(s: &[u8], at: usize) -> [u8; 27]
     ensures { result ≡ part s.now at 27 }
 {
-    // No slice has an octet of the greatest place, so that a sum that would be above it may stay at it.
-    std::array::from_fn(|i| octets::u8_at(s, at.saturating_add(i)))
+    octets::part_at(s, at)
 }
 
 // Whether a is less than b, as the order of the fields has it.

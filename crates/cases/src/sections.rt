@@ -13,9 +13,8 @@ pub(crate) fn show(out: &mut Output, section: u8, s: &[u8]) -> io::Result<()> {
 
 pub(crate) fn show_values(out: &mut Output, section: u8, s: &[u8]) -> io::Result<()> {
     let mut row = [0; 64];
-    let refused = values::read_into(section, s, &mut row);
-    if refused.number != 0 {
-        return print::refusal(out, refused);
+    if let Err(x) = values::read_into(section, s, &mut row) {
+        return print::refusal(out, x);
     }
     print::text(out, b"read")?;
     show_row(out, &row)

@@ -1,7 +1,7 @@
 // Unpacking: section 7 alone, and the row that sections 5 and 7 unpack into.
 use crate::print::{self, Output};
 use crate::sections;
-use packing::Unpacked;
+use layout::Refusal;
 use std::io;
 
 pub(crate) fn show(
@@ -23,13 +23,13 @@ pub(crate) fn show(
     }
 }
 
-fn show_answer(out: &mut Output, answer: Unpacked) -> io::Result<()> {
+fn show_answer(out: &mut Output, answer: Result<u32, Refusal>) -> io::Result<()> {
     match answer {
-        Unpacked::Written(n) => {
+        Ok(n) => {
             print::text(out, b"written")?;
-            print::number(out, n as u64)
+            print::number(out, n)
         }
-        Unpacked::Refused(x) => print::refusal(out, x),
+        Err(x) => print::refusal(out, x),
     }
 }
 

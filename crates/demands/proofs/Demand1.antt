@@ -29,10 +29,10 @@ pub use Rattle.skogmund.proofs.Entries as skogmund-entries
 -- ".. and answers ..": for each answer type, any two answers that the contract allows for an input are one, with what was lent.
 pub use Rattle.demands.proofs.OneAnswer.{one-identification, one-grid, one_product, one-packing, one-data, one_field, one-unpacking, one-filing, one_answer, one_number, one-signed, one_time, one_written, one-done}
 -- ".. or refuses with a number from document 01.": its table lists the number for the section, and the place is 0 except with 8, 11
--- and 21, and then an octet that a section can have or the one behind its last. (`Refusal::of` makes the refusal that a caller names, and
--- `fitting_refusal` hands the caller's number on: `fitting-told` is of the numbers that the tables list, which the readers' theorems show of
--- theirs.)
-pub use Rattle.layout.proofs.Refusals.{head-told, opening-told, fitting-told}
+-- and 21, and then an octet that a section can have or the one behind its last. (`Refusal::of` and `Refusal::at` make the refusal that a caller
+-- names. `fitting-told` is of all the checks behind the head, as a reader makes them one after the other: `field-told` of each field's,
+-- `total-told` of the total's.)
+pub use Rattle.layout.proofs.Refusals.{head-told, opening-told, fitting-told, field-told, total-told}
 pub use Rattle.identification.proofs.RefusalNumbers.{identification-refuses}
 pub use Rattle.grid.proofs.RefusalNumbers.{grid-refuses}
 pub use Rattle.product.proofs.RefusalNumbers.{product-refuses}
@@ -60,8 +60,7 @@ use Rattle.layout.specs.Outcomes.{Outcome}
 use Rattle.layout.specs.declared.Refusal.{Refusal}
 use Rattle.unpacking.specs.Packed.{unpacked}
 use Rattle.packing.specs.Section5.{values_at, bits_at}
-use Rattle.packing.specs.Unpacking.{told_unpacked, row_by, row_after, Unpacks}
-use Rattle.packing.specs.declared.Unpacked.TheVariants.{Refused as refused_unpacking}
+use Rattle.packing.specs.Unpacking.{row_by, row_after, Unpacks}
 use Rattle.shelf.specs.Shelves.{put_of}
 use Rattle.shelf.specs.declared.Shelf.{Shelf}
 use Rattle.std.specs.Prelude.{Option, Err}
@@ -103,7 +102,7 @@ queue-keeps-shelf shelf q x e = by-refusal (eqb (queue_refusal q) 0) e
 
 -- ".. and no lent buffer.": of the entries that refuse, `unpack` and those for C may change a buffer. Sections and queues are lent to be read only.
 
-pub unpacking-keeps-row : (five seven row later : List ℕ) (x : Refusal) → Unpacks five seven row (refused_unpacking x) later → later ≡ row
-unfolding told_unpacked row_after
+pub unpacking-keeps-row : (five seven row later : List ℕ) (x : Refusal) → Unpacks five seven row (Err x) later → later ≡ row
+unfolding row_after
 unpacking-keeps-row five seven row later x p =
     p.leaves ∙ ap (λ (o : Outcome). row_by o row (unpacked (bits_at five) (values_at five) (drop 5 seven))) (sym p.answers)

@@ -24,15 +24,15 @@ use borrow.Author.Tests.{ne_eqb}
 use Rattle.octets.specs.Octets.{part, be_at}
 use Rattle.octets.proofs.Laws.{part-take}
 use Rattle.layout.specs.Fields.{Value, after, values_of, Covered}
-use Rattle.layout.specs.Outcomes.{Outcome, refused, read}
+use Rattle.std.specs.Prelude.{Result, Ok}
+use Rattle.layout.specs.Outcomes.{Outcome, refused, read, told}
+use Rattle.layout.specs.declared.Refusal.{Refusal}
 use Rattle.layout.proofs.Outcomes.{NoneHold, read_none}
 use Rattle.layout.specs.Shown.{shown_of}
 use Rattle.layout.specs.Spans.{octets_in, Within}
 use Rattle.identification.specs.Section1 as one
 use Rattle.identification.specs.Accepted.{Follows₁, octets₁}
 use Rattle.identification.specs.Means.{Means₁}
-use Rattle.identification.specs.declared.Answer.{Answer as Answer₁}
-use Rattle.identification.specs.declared.Answer.TheVariants.{Read as Read₁}
 use Rattle.identification.specs.declared.Identification.{Identification}
 use Rattle.identification.specs.declared.Template.{Template as Template₁}
 use Rattle.identification.proofs.AcceptedExactlyWhen.{accepted-exactly-when as exactly₁, accepted-follows as follows₁}
@@ -45,8 +45,6 @@ use Rattle.grid.specs.Section3 as three
 use Rattle.grid.specs.Views.{list₃}
 use Rattle.grid.specs.Accepted.{Follows₃, NoList, octets₃}
 use Rattle.grid.specs.Means.{Means₃}
-use Rattle.grid.specs.declared.Answer.{Answer as Answer₃}
-use Rattle.grid.specs.declared.Answer.TheVariants.{Read as Read₃}
 use Rattle.grid.specs.declared.blocks.Grid.{Grid}
 use Rattle.grid.specs.declared.templates.Template.{Template as Template₃}
 use Rattle.grid.proofs.AcceptedExactlyWhen.{accepted-exactly-when as exactly₃, accepted-follows as follows₃, all-fits}
@@ -60,8 +58,6 @@ use Rattle.product.specs.Section4 as four
 use Rattle.product.specs.Views.{range_of, members_of, coordinates_of, first_strung}
 use Rattle.product.specs.Accepted.{Follows₄}
 use Rattle.product.specs.Means.{Means₄}
-use Rattle.product.specs.declared.Answer.{Answer as Answer₄}
-use Rattle.product.specs.declared.Answer.TheVariants.{Read as Read₄}
 use Rattle.product.specs.declared.blocks.Product.{Product}
 use Rattle.product.proofs.AcceptedExactlyWhen.{accepted-exactly-when as exactly₄, accepted-follows as follows₄}
 use Rattle.product.proofs.FieldsCoverOnce.{covered₄}
@@ -69,17 +65,11 @@ use Rattle.product.proofs.MeansByName.{means₄}
 use Rattle.product.proofs.ViewsAreTheLayouts.{views-shown, range-stands, members-stand, coordinates-stand, range-whole, no-range, no-members, refused-nothing}
 use Rattle.lent.proofs.Rows.{each-filled}
 use Rattle.unpacking.specs.Packed.{bit_at, bits_from, packed_at, unpacked}
-use Rattle.packing.specs.Unpacking.{told_unpacked, Unpacks}
-use Rattle.packing.specs.declared.Unpacked.{Unpacked}
-use Rattle.packing.specs.declared.Unpacked.TheVariants.{Written}
+use Rattle.packing.specs.Unpacking.{written_in, Unpacks}
 use Rattle.packing.specs.Section5 as five
 use Rattle.packing.specs.Section7 as seven
 use Rattle.packing.specs.Accepted.{Follows₅, Follows₇alone, Follows₇, octets₅, octets₇alone, octets₇}
-use Rattle.packing.specs.declared.Answer.{Answer as Answer₅}
-use Rattle.packing.specs.declared.Answer.TheVariants.{Read as Read₅}
 use Rattle.packing.specs.declared.Packing.{Packing}
-use Rattle.packing.specs.declared.DataAnswer.{DataAnswer}
-use Rattle.packing.specs.declared.DataAnswer.TheVariants.{Read as Read₇}
 use Rattle.packing.specs.declared.DataSection.{DataSection}
 use Rattle.packing.proofs.AcceptedExactlyWhen.{accepted-exactly-when₅, accepted-follows₅, accepted-exactly-when₇alone, accepted-follows₇alone, fields-say₇, accepted-exactly-when₇, accepted-follows₇}
 use Rattle.packing.proofs.FieldsCoverOnce.{covered₅, covered₇alone, covered₇, packed-rounded-up}
@@ -88,8 +78,6 @@ use Rattle.packing.proofs.MeansByName.{means₅, means₇}
 use Rattle.packing.proofs.UnpackedExactlyWhen.{unpacked-exactly-when, written, spare-ignored, width-0-zeros}
 use Rattle.field.specs.Field.{FieldOutcome, read_field, onward, packed_outcome, told as told_field, field_outcome}
 use Rattle.field.specs.Accepted.{FollowsField, AcceptedField}
-use Rattle.field.specs.declared.Answer.{Answer as FieldAnswer}
-use Rattle.field.specs.declared.Answer.TheVariants.{Read as ReadField}
 use Rattle.field.specs.declared.WholeField.{WholeField}
 use Rattle.field.proofs.AcceptedExactlyWhen.{accepted-exactly-when as exactly-field}
 use Rattle.skogmund.specs.Parts.{part_span, first_octet}
@@ -118,26 +106,26 @@ handed (read vs) next e = (vs, refl, e)
 -- ---- "A section is accepted exactly when it has at most 65,536 octets, follows the WMO FM 92 template layouts and keeps the value rules". (Of
 -- sections 1 and 5 the totals say that they have at most 65,536.)
 
-pub section-1-accepted : (s : List ℕ) (a : Answer₁) → one.told a ≡ one.outcome₁ s → Accepted (one.told a) ↔ ((template : Template₁) × Follows₁ template s)
+pub section-1-accepted : (s : List ℕ) (a : Result Identification Refusal) → told one.values_in a ≡ one.outcome₁ s → Accepted (told one.values_in a) ↔ ((template : Template₁) × Follows₁ template s)
 section-1-accepted s a e = by-outcome e (exactly₁ s)
 
-pub section-3-accepted : (s : List ℕ) (a : Answer₃) → three.told a ≡ three.outcome₃ s → Accepted (three.told a) ↔ ((template : Template₃) × Follows₃ template s)
+pub section-3-accepted : (s : List ℕ) (a : Result Grid Refusal) → told values_in₃ a ≡ three.outcome₃ s → Accepted (told values_in₃ a) ↔ ((template : Template₃) × Follows₃ template s)
 section-3-accepted s a e = by-outcome e (exactly₃ s)
 
-pub section-4-accepted : (s : List ℕ) (a : Answer₄) → four.told a ≡ four.outcome₄ s → Accepted (four.told a) ↔ ((row : TemplateRow) × Follows₄ row s)
+pub section-4-accepted : (s : List ℕ) (a : Result Product Refusal) → told values_in₄ a ≡ four.outcome₄ s → Accepted (told values_in₄ a) ↔ ((row : TemplateRow) × Follows₄ row s)
 section-4-accepted s a e = by-outcome e (exactly₄ s)
 
-pub section-5-accepted : (s : List ℕ) (a : Answer₅) → five.told₅ a ≡ five.outcome₅ s → Accepted (five.told₅ a) ↔ Follows₅ s
+pub section-5-accepted : (s : List ℕ) (a : Result Packing Refusal) → told five.values_in₅ a ≡ five.outcome₅ s → Accepted (told five.values_in₅ a) ↔ Follows₅ s
 section-5-accepted s a e = by-outcome e (accepted-exactly-when₅ s)
 
-pub section-7-accepted : (n bits : ℕ) (s : List ℕ) (a : DataAnswer) → seven.told₇ a ≡ seven.outcome₇ n bits s → Accepted (seven.told₇ a) ↔ Follows₇ n bits s
+pub section-7-accepted : (n bits : ℕ) (s : List ℕ) (a : Result DataSection Refusal) → told seven.values_in₇ a ≡ seven.outcome₇ n bits s → Accepted (told seven.values_in₇ a) ↔ Follows₇ n bits s
 section-7-accepted n bits s a e = by-outcome e (accepted-exactly-when₇ n bits s)
 
 -- a section 7 alone, of which no section 5 says N and the bits
 pub section-7-alone-accepted : (s : List ℕ) → Accepted (seven.outcome₇alone s) ↔ Follows₇alone s
 section-7-alone-accepted s = by-outcome refl (accepted-exactly-when₇alone s)
 
-pub field-accepted : (s1 s3 s4 s5 s7 : List ℕ) (a : FieldAnswer) → told_field a ≡ field_outcome s1 s3 s4 s5 s7 → AcceptedField (told_field a) ↔ FollowsField s1 s3 s4 s5 s7
+pub field-accepted : (s1 s3 s4 s5 s7 : List ℕ) (a : Result WholeField Refusal) → told_field a ≡ field_outcome s1 s3 s4 s5 s7 → AcceptedField (told_field a) ↔ FollowsField s1 s3 s4 s5 s7
 field-accepted s1 s3 s4 s5 s7 a e =
     let w = exactly-field s1 s3 s4 s5 s7 in
     ((λ x. w.0 (subst AcceptedField e x)), (λ f. subst AcceptedField (sym e) (w.1 f)))
@@ -172,24 +160,19 @@ section-7-alone-covered s f = covered₇alone (length s - 5) s (omega (arith, f.
 
 -- ---- "What is read out is what those octets mean": a record that is read has the values of the fields, and section 1's the real year beside them
 
-pub section-1-means : (s : List ℕ) (x : Identification) → one.told (Read₁ x) ≡ one.outcome₁ s → (template : Template₁) × Follows₁ template s × (one.values_in x ≡ one.values₁ template s)
-unfolding one.told
+pub section-1-means : (s : List ℕ) (x : Identification) → told one.values_in (Ok x) ≡ one.outcome₁ s → (template : Template₁) × Follows₁ template s × (one.values_in x ≡ one.values₁ template s)
 section-1-means s x e = follows₁ s (one.values_in x) (sym e)
 
-pub section-3-means : (s : List ℕ) (x : Grid) → three.told (Read₃ x) ≡ three.outcome₃ s → (template : Template₃) × Follows₃ template s × (values_in₃ x ≡ values₃ template s)
-unfolding three.told
+pub section-3-means : (s : List ℕ) (x : Grid) → told values_in₃ (Ok x) ≡ three.outcome₃ s → (template : Template₃) × Follows₃ template s × (values_in₃ x ≡ values₃ template s)
 section-3-means s x e = follows₃ s (values_in₃ x) (sym e)
 
-pub section-4-means : (s : List ℕ) (x : Product) → four.told (Read₄ x) ≡ four.outcome₄ s → (row : TemplateRow) × Follows₄ row s × (values_in₄ x ≡ values₄ row.part (is_timed row) s)
-unfolding four.told
+pub section-4-means : (s : List ℕ) (x : Product) → told values_in₄ (Ok x) ≡ four.outcome₄ s → (row : TemplateRow) × Follows₄ row s × (values_in₄ x ≡ values₄ row.part (is_timed row) s)
 section-4-means s x e = follows₄ s (values_in₄ x) (sym e)
 
-pub section-5-means : (s : List ℕ) (x : Packing) → five.told₅ (Read₅ x) ≡ five.outcome₅ s → Follows₅ s × (five.values_in₅ x ≡ values_of (after 0 five.fields₅) s)
-unfolding five.told₅
+pub section-5-means : (s : List ℕ) (x : Packing) → told five.values_in₅ (Ok x) ≡ five.outcome₅ s → Follows₅ s × (five.values_in₅ x ≡ values_of (after 0 five.fields₅) s)
 section-5-means s x e = accepted-follows₅ s (five.values_in₅ x) (sym e)
 
-pub section-7-means : (n bits : ℕ) (s : List ℕ) (x : DataSection) → seven.told₇ (Read₇ x) ≡ seven.outcome₇ n bits s → Follows₇ n bits s × (seven.values_in₇ x ≡ values_of (after 0 (seven.fields₇ n bits)) s)
-unfolding seven.told₇
+pub section-7-means : (n bits : ℕ) (s : List ℕ) (x : DataSection) → told seven.values_in₇ (Ok x) ≡ seven.outcome₇ n bits s → Follows₇ n bits s × (seven.values_in₇ x ≡ values_of (after 0 (seven.fields₇ n bits)) s)
 section-7-means n bits s x e = accepted-follows₇ n bits s (seven.values_in₇ x) (sym e)
 
 -- alone it says its length and its number
@@ -200,25 +183,25 @@ section-7-alone-means s vs e =
 
 -- ---- by name and octet: each field of the record is the meaning of its octets (`Means…`, `specs/Means.antt` of each crate)
 
-pub section-1-by-name : (s : List ℕ) (x : Identification) → one.told (Read₁ x) ≡ one.outcome₁ s → (template : Template₁) × Follows₁ template s × Means₁ template x s
+pub section-1-by-name : (s : List ℕ) (x : Identification) → told one.values_in (Ok x) ≡ one.outcome₁ s → (template : Template₁) × Follows₁ template s × Means₁ template x s
 section-1-by-name s x e = let a = section-1-means s x e in (a.0, a.1, means₁ a.0 s x a.2)
 
-pub section-3-by-name : (s : List ℕ) (x : Grid) → three.told (Read₃ x) ≡ three.outcome₃ s → (template : Template₃) × Follows₃ template s × Means₃ template x s
+pub section-3-by-name : (s : List ℕ) (x : Grid) → told values_in₃ (Ok x) ≡ three.outcome₃ s → (template : Template₃) × Follows₃ template s × Means₃ template x s
 section-3-by-name s x e = let a = section-3-means s x e in (a.0, a.1, means₃ a.0 s x a.2)
 
-pub section-4-by-name : (s : List ℕ) (x : Product) → four.told (Read₄ x) ≡ four.outcome₄ s → (row : TemplateRow) × Follows₄ row s × Means₄ row x s
+pub section-4-by-name : (s : List ℕ) (x : Product) → told values_in₄ (Ok x) ≡ four.outcome₄ s → (row : TemplateRow) × Follows₄ row s × Means₄ row x s
 section-4-by-name s x e =
     let f = section-4-means s x e in
     (f.0, f.1, means₄ f.0 f.1.listed s x f.2)
 
-pub section-5-by-name : (s : List ℕ) (x : Packing) → five.told₅ (Read₅ x) ≡ five.outcome₅ s → Means₅ x s
+pub section-5-by-name : (s : List ℕ) (x : Packing) → told five.values_in₅ (Ok x) ≡ five.outcome₅ s → Means₅ x s
 section-5-by-name s x e = means₅ s x (section-5-means s x e).1
 
-pub section-7-by-name : (n bits : ℕ) (s : List ℕ) (x : DataSection) → seven.told₇ (Read₇ x) ≡ seven.outcome₇ n bits s → Means₇ x s
+pub section-7-by-name : (n bits : ℕ) (s : List ℕ) (x : DataSection) → told seven.values_in₇ (Ok x) ≡ seven.outcome₇ n bits s → Means₇ x s
 section-7-by-name n bits s x e = means₇ n bits s x (section-7-means n bits s x e).1
 
 -- a field that is read is its sections, each read as it is alone, and section 7 by section 5's N and bits
-pub field-means : (s1 s3 s4 s5 s7 : List ℕ) (x : WholeField) → told_field (ReadField x) ≡ field_outcome s1 s3 s4 s5 s7
+pub field-means : (s1 s3 s4 s5 s7 : List ℕ) (x : WholeField) → told_field (Ok x) ≡ field_outcome s1 s3 s4 s5 s7
     → (one.outcome₁ s1 ≡ read (one.values_in x.identification)) × (three.outcome₃ s3 ≡ read (values_in₃ x.grid)) × (four.outcome₄ s4 ≡ read (values_in₄ x.product))
     × (five.outcome₅ s5 ≡ read (five.values_in₅ x.packing)) × ((vs : List Value) × (seven.outcome₇ (five.values_at s5) (five.bits_at s5) s7 ≡ read vs))
 unfolding told_field field_outcome packed_outcome NoneHold
@@ -233,10 +216,9 @@ field-means s1 s3 s4 s5 s7 x e =
     (a.1 ∙ ap read cc, b.1 ∙ ap read cc, c.1 ∙ ap read cc, d.1 ∙ ap read cc, (f.0, g.1))
 
 -- so each of its records is, by name and octet, what its section says
-pub field-by-name : (s1 s3 s4 s5 s7 : List ℕ) (x : WholeField) → told_field (ReadField x) ≡ field_outcome s1 s3 s4 s5 s7
+pub field-by-name : (s1 s3 s4 s5 s7 : List ℕ) (x : WholeField) → told_field (Ok x) ≡ field_outcome s1 s3 s4 s5 s7
     → ((template : Template₁) × Follows₁ template s1 × Means₁ template x.identification s1) × ((template : Template₃) × Follows₃ template s3 × Means₃ template x.grid s3)
     × ((row : TemplateRow) × Follows₄ row s4 × Means₄ row x.product s4) × Means₅ x.packing s5
-unfolding one.told three.told four.told five.told₅
 field-by-name s1 s3 s4 s5 s7 x e =
     let f = field-means s1 s3 s4 s5 s7 x e in (
       section-1-by-name s1 x.identification (sym f.0),
@@ -309,20 +291,20 @@ unfolding unpacked packed_at
 unpacked-means bits n k xs l = each-filled 0 (packed_at bits xs) n k l
 
 -- a row is written exactly when sections 5 and 7 follow and it has N places
-pub unpacking-accepted : (s5 s7 row later : List ℕ) (a : Unpacked) → Unpacks s5 s7 row a later
-    → Accepted (told_unpacked a) ↔ (Follows₅ s5 × Follows₇ (be_at s5 6 4) (be_at s5 20 1) s7 × (length row ≡ be_at s5 6 4))
+pub unpacking-accepted : (s5 s7 row later : List ℕ) (a : Result ℕ Refusal) → Unpacks s5 s7 row a later
+    → Accepted (told written_in a) ↔ (Follows₅ s5 × Follows₇ (be_at s5 6 4) (be_at s5 20 1) s7 × (length row ≡ be_at s5 6 4))
 unpacking-accepted s5 s7 row later a u = by-outcome u.answers (unpacked-exactly-when s5 s7 row)
 
 -- then it holds the N numbers, and N is answered
-pub unpacking-means : (s5 s7 row later : List ℕ) (n : ℕ) → Unpacks s5 s7 row (Written n) later
+pub unpacking-means : (s5 s7 row later : List ℕ) (n : ℕ) → Unpacks s5 s7 row (Ok n) later
     → (n ≡ be_at s5 6 4) × Follows₅ s5 × Follows₇ (be_at s5 6 4) (be_at s5 20 1) s7 × (length row ≡ be_at s5 6 4) × (later ≡ unpacked (be_at s5 20 1) (be_at s5 6 4) (drop 5 s7))
 unpacking-means s5 s7 row later n u = written s5 s7 row n later u
 
 -- spare bits are not looked at: two sections 7 whose first N x bits bits are the same, from octet 6 on, leave the same row
-pub spare-bits : (s5 s7 s7' row row' later later' : List ℕ) (n n' : ℕ) → Unpacks s5 s7 row (Written n) later → Unpacks s5 s7' row' (Written n') later'
+pub spare-bits : (s5 s7 s7' row row' later later' : List ℕ) (n n' : ℕ) → Unpacks s5 s7 row (Ok n) later → Unpacks s5 s7' row' (Ok n') later'
     → ((k : ℕ) → k < be_at s5 6 4 * be_at s5 20 1 → bit_at (drop 5 s7) k ≡ bit_at (drop 5 s7') k) → later ≡ later'
 spare-bits = spare-ignored
 
 -- width 0 writes zeros
-pub width-0 : (s5 s7 row later : List ℕ) (n : ℕ) → Unpacks s5 s7 row (Written n) later → be_at s5 20 1 ≡ 0 → later ≡ replicate (be_at s5 6 4) 0
+pub width-0 : (s5 s7 row later : List ℕ) (n : ℕ) → Unpacks s5 s7 row (Ok n) later → be_at s5 20 1 ≡ 0 → later ≡ replicate (be_at s5 6 4) 0
 width-0 = width-0-zeros

@@ -14,7 +14,7 @@ use Rattle.unpacking.specs.Filled.{filled}
 use Rattle.unpacking.proofs.Filled.{narrow, wide}
 use Rattle.unpacking.proofs.SpareBits.{missing-octets}
 use Rattle.packing.specs.Unpacking.{Unpacks}
-use Rattle.packing.specs.declared.Unpacked.TheVariants.{Written}
+use Rattle.std.specs.Prelude.{Ok}
 use Rattle.demands.proofs.Demand2.{unpacking-means, unpacked-means}
 -- ".. prove the two equal for every N and every width": whatever the octets, also where some are missing, and whatever the row held. Of the two
 -- engines, and of the plain one and what `packing` calls, by what the check reads from their code
@@ -48,7 +48,7 @@ engine-too-wide = wide
 
 -- "Its promise stays as it is": where sections 5 and 7 are unpacked, the row holds what the plain engine, too, would leave of the octets from octet
 -- 6 on. "Refusals: none new": it is refused as its table lists (Demand1's `unpacking-refuses`), which is as it was
-pub unpacking-is-plain : (s5 s7 row later : List ℕ) (n : ℕ) → Unpacks s5 s7 row (Written n) later → later ≡ filled (be_at s5 20 1) (drop 5 s7) row
+pub unpacking-is-plain : (s5 s7 row later : List ℕ) (n : ℕ) → Unpacks s5 s7 row (Ok n) later → later ≡ filled (be_at s5 20 1) (drop 5 s7) row
 unpacking-is-plain s5 s7 row later n u =
     let m = unpacking-means s5 s7 row later n u in
     m.4

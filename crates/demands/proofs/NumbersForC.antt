@@ -10,10 +10,10 @@ use lib.Dec.{eqb, ltb, leb}
 use lib.IntN.{ℤ}
 use lib.ListN.{length}
 use borrow.Author.Tests.{leb-true, eqb-true, eqb-false}
-use Rattle.layout.specs.Outcomes.{Outcome, refused, read, no_refusal, refusal}
+use Rattle.layout.specs.Outcomes.{Outcome, refused, read, refusal, Check}
 use Rattle.layout.specs.Refusals.{Row, one_of, numbers_of, has_place, Listed}
 use Rattle.layout.proofs.Outcomes.{either}
-use Rattle.layout.proofs.Refusals.{by-test, wider, Refuses, placeless}
+use Rattle.layout.proofs.Refusals.{by-test, wider, Refuses, PassedOrListed, passed, listed, placeless}
 use Rattle.layout.specs.declared.Refusal.{Refusal}
 use Rattle.layout.proofs.Ranges.{both_hold}
 use Rattle.packing.specs.Unpacking.{unpack_outcome}
@@ -37,9 +37,9 @@ use Rattle.queue.proofs.RefusalNumbers.{queue-refuses}
 use Rattle.lent.specs.Lent.{Done, done_both, over, if_room}
 use Rattle.values.specs.Refused.{read_table}
 use Rattle.values.proofs.RecordRead.{read-into-refuses}
-use Rattle.skogmund.specs.Entries.{code, code_of, coded, no_room, row_unpacked, record_told, fits, listing_told}
+use Rattle.skogmund.specs.Entries.{code, code_of, coded, coded_check, no_room, row_unpacked, record_told, fits, listing_told}
 use Rattle.skogmund.specs.Parts.{part_told}
-use Rattle.skogmund.specs.Messages.{spans_of, room_for, message_told}
+use Rattle.skogmund.specs.Messages.{room_for, fields_told, message_told}
 use Rattle.skogmund.specs.Shelves.{is_shelf, emptied, joined, kept_in, field_kept, filed_field, queue_kept, filed_queue, slot_shown}
 use Rattle.skogmund.proofs.Answered.{taken-apart}
 use Rattle.demands.specs.NumbersForC.{Answers, octet_sections, room_table, message_for_c_table, slot_table, file_table, file_queue_table}
@@ -75,9 +75,9 @@ pub read-answers : (section : ℕ) (s : List ℕ) (row : List ℤ) → Answers (
 unfolding record_told
 read-answers section s row = by (read-into-refuses section s row)
   where
-    by : {x : Refusal} → (x ≡ no_refusal) ⊎ Listed (read_table section) x → Answers (read_table section) (code_of x)
-    by (inl e) = inl (ap code_of e)
-    by {x} (inr l) = inr (x, refl, l)
+    by : {c : Check} → PassedOrListed (read_table section) c → Answers (read_table section) (coded_check c)
+    by passed = inl refl
+    by (listed x l) = inr (x, refl, l)
 
 -- ---- refusals of what is lent
 
@@ -104,7 +104,7 @@ pub message-answers : (m spans places : List ℕ) → Answers message_for_c_tabl
 unfolding message_told
 message-answers m spans places =
     let c = read_message m in
-    let told : Done ℕ (List ℕ × List ℕ) = if_room 0 no_room (room_for spans places) (over spans (spans_of c), over places (c.count ∷ [])) (spans, places) in
+    let told : Done ℕ (List ℕ × List ℕ) = fields_told c spans places in
     by-test (λ (t : Bool). AnswersBy message_for_c_table (cond t told (done_both (code_of c.refusal) spans places))) (eqb c.refusal.number 0)
     (λ e. room-answers message_for_c_table (room_for spans places) _ _ refl)
     (λ e. ⊎_elim (λ y. absurd (eqb-false _ 0 e (ap (λ (x : Refusal). x.number) y.1))) (λ n. inr (c.refusal, refl, wider message_for_c_table message_table c.refusal refl n.1)) (message-refuses m))

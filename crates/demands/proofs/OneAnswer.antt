@@ -6,31 +6,31 @@ use mathlib.Core.List.{List}
 use Rattle.layout.specs.Fields.{Value}
 use Rattle.layout.specs.Missing.{in32, in_signed}
 use Rattle.layout.specs.Time.{time_in}
-use Rattle.layout.specs.declared.U32OrMissing.{U32OrMissing}
-use Rattle.layout.specs.declared.I32OrMissing.{I32OrMissing}
 use Rattle.layout.specs.declared.Time.{Time}
 use Rattle.layout.proofs.Untold.{same32, same_signed, same_time}
-use Rattle.identification.specs.Section1.{told as told₁, outcome₁}
-use Rattle.identification.specs.declared.Answer.{Answer as Answer₁}
+use Rattle.layout.specs.Outcomes.{told}
+use Rattle.identification.specs.Section1.{values_in as values_in₁, outcome₁}
+use Rattle.identification.specs.declared.Identification.{Identification}
 use Rattle.identification.proofs.AnswersDetermined.{determined as determined₁}
-use Rattle.grid.specs.Section3.{told as told₃, outcome₃}
-use Rattle.grid.specs.declared.Answer.{Answer as Answer₃}
+use Rattle.grid.specs.Blocks.{values_in as values_in₃}
+use Rattle.grid.specs.Section3.{outcome₃}
+use Rattle.grid.specs.declared.blocks.Grid.{Grid}
 use Rattle.grid.proofs.AnswersDetermined.{determined as determined₃}
-use Rattle.product.specs.Section4.{told as told₄, outcome₄}
-use Rattle.product.specs.declared.Answer.{Answer as Answer₄}
+use Rattle.product.specs.Blocks.{values_in as values_in₄}
+use Rattle.product.specs.Section4.{outcome₄}
+use Rattle.product.specs.declared.blocks.Product.{Product}
 use Rattle.product.proofs.AnswersDetermined.{determined as determined₄}
-use Rattle.packing.specs.Section5.{told₅, outcome₅}
-use Rattle.packing.specs.Section7.{told₇, outcome₇}
+use Rattle.packing.specs.Section5.{values_in₅, outcome₅}
+use Rattle.packing.specs.Section7.{values_in₇, outcome₇}
+use Rattle.packing.specs.declared.Packing.{Packing}
+use Rattle.packing.specs.declared.DataSection.{DataSection}
 use Rattle.packing.specs.Unpacking.{Unpacks}
-use Rattle.packing.specs.declared.Answer.{Answer as Answer₅}
-use Rattle.packing.specs.declared.DataAnswer.{DataAnswer}
-use Rattle.packing.specs.declared.Unpacked.{Unpacked}
 use Rattle.packing.proofs.AnswersDetermined.{determined₅, determined₇, determined as determined-row}
-use Rattle.field.specs.Field.{told, field_outcome}
-use Rattle.field.specs.declared.Answer.{Answer as FieldAnswer}
+use Rattle.field.specs.Field.{told as told_field, field_outcome}
+use Rattle.field.specs.declared.WholeField.{WholeField}
 use Rattle.field.proofs.AnswersDetermined.{determined as determined-field}
 use Rattle.shelf.specs.declared.Shelf.{Shelf}
-use Rattle.std.specs.Prelude.{Result}
+use Rattle.std.specs.Prelude.{ℤ, Option, Result}
 use Rattle.layout.specs.declared.Refusal.{Refusal}
 use Rattle.filing.specs.declared.Change.{Change}
 use Rattle.filing.specs.declared.Filed.{Filed}
@@ -40,39 +40,39 @@ pub use Rattle.lent.proofs.Answers.{one_written, one-done}
 
 -- ---- the readers, whose contracts say what an answer tells
 
-pub one-identification : (s : List ℕ) (a b : Answer₁) → told₁ a ≡ outcome₁ s → told₁ b ≡ outcome₁ s → a ≡ b
+pub one-identification : (s : List ℕ) (a b : Result Identification Refusal) → told values_in₁ a ≡ outcome₁ s → told values_in₁ b ≡ outcome₁ s → a ≡ b
 one-identification = determined₁
 
-pub one-grid : (s : List ℕ) (a b : Answer₃) → told₃ a ≡ outcome₃ s → told₃ b ≡ outcome₃ s → a ≡ b
+pub one-grid : (s : List ℕ) (a b : Result Grid Refusal) → told values_in₃ a ≡ outcome₃ s → told values_in₃ b ≡ outcome₃ s → a ≡ b
 one-grid = determined₃
 
-pub one_product : (s : List ℕ) (a b : Answer₄) → told₄ a ≡ outcome₄ s → told₄ b ≡ outcome₄ s → a ≡ b
+pub one_product : (s : List ℕ) (a b : Result Product Refusal) → told values_in₄ a ≡ outcome₄ s → told values_in₄ b ≡ outcome₄ s → a ≡ b
 one_product = determined₄
 
-pub one-packing : (s : List ℕ) (a b : Answer₅) → told₅ a ≡ outcome₅ s → told₅ b ≡ outcome₅ s → a ≡ b
+pub one-packing : (s : List ℕ) (a b : Result Packing Refusal) → told values_in₅ a ≡ outcome₅ s → told values_in₅ b ≡ outcome₅ s → a ≡ b
 one-packing = determined₅
 
-pub one-data : (n bits : ℕ) (s : List ℕ) (a b : DataAnswer) → told₇ a ≡ outcome₇ n bits s → told₇ b ≡ outcome₇ n bits s → a ≡ b
+pub one-data : (n bits : ℕ) (s : List ℕ) (a b : Result DataSection Refusal) → told values_in₇ a ≡ outcome₇ n bits s → told values_in₇ b ≡ outcome₇ n bits s → a ≡ b
 one-data = determined₇
 
-pub one_field : (s1 s3 s4 s5 s7 : List ℕ) (a b : FieldAnswer) → told a ≡ field_outcome s1 s3 s4 s5 s7 → told b ≡ field_outcome s1 s3 s4 s5 s7 → a ≡ b
+pub one_field : (s1 s3 s4 s5 s7 : List ℕ) (a b : Result WholeField Refusal) → told_field a ≡ field_outcome s1 s3 s4 s5 s7 → told_field b ≡ field_outcome s1 s3 s4 s5 s7 → a ≡ b
 one_field = determined-field
 
 -- the row too
-pub one-unpacking : (five seven row : List ℕ) (a b : Unpacked) (after later : List ℕ) → Unpacks five seven row a after → Unpacks five seven row b later → (a ≡ b) × (after ≡ later)
+pub one-unpacking : (five seven row : List ℕ) (a b : Result ℕ Refusal) (after later : List ℕ) → Unpacks five seven row a after → Unpacks five seven row b later → (a ≡ b) × (after ≡ later)
 one-unpacking = determined-row
 
--- ---- contracts that are equations: octets, layout's places, card, shelf, filing by value, queue, `refusal_of`, the octets of a view
+-- ---- contracts that are equations: octets, layout's checks, card, shelf, filing by value, queue, the octets of a view
 
 pub one_answer : {A : Type 0} {x : A} (a b : A) → a ≡ x → b ≡ x → a ≡ b
 one_answer a b p q = p ∙ sym q
 
 -- ---- layout's numbers and times, whose contracts say the value
 
-pub one_number : (v : Value) (a b : U32OrMissing) → in32 a ≡ v → in32 b ≡ v → a ≡ b
+pub one_number : (v : Value) (a b : Option ℕ) → in32 a ≡ v → in32 b ≡ v → a ≡ b
 one_number v a b p q = same32 a b (p ∙ sym q)
 
-pub one-signed : (v : Value) (a b : I32OrMissing) → in_signed a ≡ v → in_signed b ≡ v → a ≡ b
+pub one-signed : (v : Value) (a b : Option ℤ) → in_signed a ≡ v → in_signed b ≡ v → a ≡ b
 one-signed v a b p q = same_signed a b (p ∙ sym q)
 
 pub one_time : (vs : List Value) (a b : Time) → time_in a ≡ vs → time_in b ≡ vs → a ≡ b

@@ -19,7 +19,8 @@ use lib.ListN.{length}
 use borrow.Author.Tests.{le-ltb}
 use Rattle.octets.specs.Octets.{be_at}
 use Rattle.layout.specs.Fields.{Value}
-use Rattle.layout.specs.Outcomes.{Outcome, refused, read, refusal, and_then}
+use Rattle.layout.specs.Outcomes.{Outcome, refused, read, refusal, told, and_then}
+use Rattle.layout.specs.declared.Refusal.{Refusal}
 use Rattle.layout.specs.Totals.{NoLower, RefusedWith, ByTotal, Resized}
 use Rattle.layout.specs.Refusals.{Row}
 use Rattle.layout.specs.Examples.{AllAgree}
@@ -27,7 +28,7 @@ use Rattle.layout.proofs.Refusals.{Refuses, lacks, never-listed}
 use Rattle.identification.specs.Section1 as one
 use Rattle.identification.specs.Accepted.{ReadBy, Follows₁}
 use Rattle.identification.specs.Refused.{table₁}
-use Rattle.identification.specs.declared.Answer.{Answer as Answer₁}
+use Rattle.identification.specs.declared.Identification.{Identification}
 use Rattle.identification.specs.declared.Template.{Template as Template₁}
 use Rattle.identification.proofs.RefusalNumbers.{refuses₁}
 use Rattle.identification.proofs.ShortOrLong.{short-or-long₁, resized₁}
@@ -35,7 +36,8 @@ use Rattle.identification.proofs.StarredYears.{years-agree}
 use Rattle.grid.specs.Templates.{base_end, total}
 use Rattle.grid.specs.Accepted.{number_of, Follows₃}
 use Rattle.grid.specs.Section3 as three
-use Rattle.grid.specs.declared.Answer.{Answer as Answer₃}
+use Rattle.grid.specs.Blocks.{values_in as values_in₃}
+use Rattle.grid.specs.declared.blocks.Grid.{Grid}
 use Rattle.grid.specs.declared.templates.Template.{Template as Template₃}
 use Rattle.grid.proofs.ShortOrLong.{short-or-long₃, resized₃}
 use Rattle.grid.proofs.StarredGrids.{grids-agree}
@@ -43,7 +45,8 @@ use Rattle.product.specs.Section4 as four
 use Rattle.product.specs.Templates.{total as total₄}
 use Rattle.product.specs.Table.{TemplateRow, templates₄, count_in, is_timed}
 use Rattle.product.specs.Accepted.{Follows₄}
-use Rattle.product.specs.declared.Answer.{Answer as Answer₄}
+use Rattle.product.specs.Blocks.{values_in as values_in₄}
+use Rattle.product.specs.declared.blocks.Product.{Product}
 use Rattle.product.proofs.ShortOrLong.{short-or-long₄, resized₄}
 use Rattle.product.proofs.StarredProducts.{products-agree}
 use Rattle.packing.specs.Section5 as five
@@ -51,14 +54,14 @@ use Rattle.packing.specs.Section7.{outcome₇}
 use Rattle.packing.specs.Accepted.{Follows₅}
 use Rattle.packing.specs.Refused.{table₅, table₇}
 use Rattle.packing.specs.Unpacking.{unpack_outcome}
-use Rattle.packing.specs.declared.Answer.{Answer as Answer₅}
+use Rattle.packing.specs.declared.Packing.{Packing}
 use Rattle.packing.proofs.RefusalNumbers.{refuses₅, refuses₇}
 use Rattle.packing.proofs.ShortOrLong.{short-or-long₅, resized₅}
 use Rattle.packing.proofs.StarredPacking.{packing-agrees}
 use Rattle.field.specs.Field.{FieldOutcome, refused_field, onward, packed_outcome, field_outcome}
 use Rattle.shelf.specs.declared.Shelf.{Shelf}
 use Rattle.filing.specs.Filing.{Filing, of_field, filing_of, filed_by, issue_from, filed_of}
-use Rattle.std.specs.Prelude.{Option, Err}
+use Rattle.std.specs.Prelude.{Option, Result, Err}
 use Rattle.queue.specs.Queues.{Sent, record_filing, record_filed}
 use Rattle.queue.specs.Spelled.{FiveSections}
 use Rattle.queue.proofs.FiveSections.{five-filed}
@@ -76,17 +79,17 @@ use Rattle.demands.proofs.Starred.{both}
 of-answer : {section total : ℕ} {s : List ℕ} {said o : Outcome} → said ≡ o → (NoLower o → ByTotal section total s o) → NoLower said → ByTotal section total s said
 of-answer {section} {total} {s} e law = subst (λ (x : Outcome). NoLower x → ByTotal section total s x) (sym e) law
 
-pub section-1-by-total : (template : Template₁) (s : List ℕ) (a : Answer₁) → one.told a ≡ one.outcome₁ s → ReadBy template s → NoLower (one.told a) → ByTotal 1 (one.total template) s (one.told a)
+pub section-1-by-total : (template : Template₁) (s : List ℕ) (a : Result Identification Refusal) → told one.values_in a ≡ one.outcome₁ s → ReadBy template s → NoLower (told one.values_in a) → ByTotal 1 (one.total template) s (told one.values_in a)
 section-1-by-total template s a e by = of-answer e (short-or-long₁ template s by)
 
-pub section-3-by-total : (template : Template₃) (s : List ℕ) (a : Answer₃) → three.told a ≡ three.outcome₃ s → be_at s 13 2 ≡ number_of template → NoLower (three.told a) → ByTotal 3 (total template s) s (three.told a)
+pub section-3-by-total : (template : Template₃) (s : List ℕ) (a : Result Grid Refusal) → told values_in₃ a ≡ three.outcome₃ s → be_at s 13 2 ≡ number_of template → NoLower (told values_in₃ a) → ByTotal 3 (total template s) s (told values_in₃ a)
 section-3-by-total template s a e names = of-answer e (short-or-long₃ template s names)
 
-pub section-4-by-total : (row : TemplateRow) (s : List ℕ) (a : Answer₄) → four.told a ≡ four.outcome₄ s → Memᴰ row templates₄ → be_at s 8 2 ≡ row.number → NoLower (four.told a)
-    → ByTotal 4 (row.octets + 12 * count_in row.ranges s + count_in row.members s + 4 * be_at s 6 2) s (four.told a)
+pub section-4-by-total : (row : TemplateRow) (s : List ℕ) (a : Result Product Refusal) → told values_in₄ a ≡ four.outcome₄ s → Memᴰ row templates₄ → be_at s 8 2 ≡ row.number → NoLower (told values_in₄ a)
+    → ByTotal 4 (row.octets + 12 * count_in row.ranges s + count_in row.members s + 4 * be_at s 6 2) s (told values_in₄ a)
 section-4-by-total row s a e m names = of-answer e (short-or-long₄ row s m names)
 
-pub section-5-by-total : (s : List ℕ) (a : Answer₅) → five.told₅ a ≡ five.outcome₅ s → NoLower (five.told₅ a) → ByTotal 5 21 s (five.told₅ a)
+pub section-5-by-total : (s : List ℕ) (a : Result Packing Refusal) → told five.values_in₅ a ≡ five.outcome₅ s → NoLower (told five.values_in₅ a) → ByTotal 5 21 s (told five.values_in₅ a)
 section-5-by-total s a e = of-answer e (short-or-long₅ s)
 
 -- What "our radio crew" sees: a section that is accepted, when it was clipped or has got a tail and says in octets 1-4 how long it is (`Resized`,
@@ -94,24 +97,24 @@ section-5-by-total s a e = of-answer e (short-or-long₅ s)
 -- template's smallest total, below which it is 7, and has no more than 65,536 octets. Of a section 1 of 21 octets, octets 22-23 of a tail are a
 -- template number.
 
-pub section-1-resized : (template : Template₁) (s t : List ℕ) (a : Answer₁) → one.told a ≡ one.outcome₁ t → Follows₁ template s → (length s ≡ 21 → ⊥) → Resized s t → one.total template ≤ length t → length t ≤ 65536
-    → ByTotal 1 (length s) t (one.told a)
+pub section-1-resized : (template : Template₁) (s t : List ℕ) (a : Result Identification Refusal) → told one.values_in a ≡ one.outcome₁ t → Follows₁ template s → (length s ≡ 21 → ⊥) → Resized s t → one.total template ≤ length t → length t ≤ 65536
+    → ByTotal 1 (length s) t (told one.values_in a)
 section-1-resized template s t a e f has-template r enough small = subst (ByTotal 1 (length s) t) (sym e) (resized₁ s t r has-template template f enough small)
 
-pub section-3-resized : (template : Template₃) (s t : List ℕ) (a : Answer₃) → three.told a ≡ three.outcome₃ t → Follows₃ template s → Resized s t → base_end template ≤ length t → length t ≤ 65536
-    → ByTotal 3 (length s) t (three.told a)
+pub section-3-resized : (template : Template₃) (s t : List ℕ) (a : Result Grid Refusal) → told values_in₃ a ≡ three.outcome₃ t → Follows₃ template s → Resized s t → base_end template ≤ length t → length t ≤ 65536
+    → ByTotal 3 (length s) t (told values_in₃ a)
 section-3-resized template s t a e f r enough small = subst (ByTotal 3 (length s) t) (sym e) (resized₃ template s t f r enough small)
 
-pub section-4-resized : (row : TemplateRow) (s t : List ℕ) (a : Answer₄) → four.told a ≡ four.outcome₄ t → Follows₄ row s → Resized s t → total₄ row.part (is_timed row) 1 0 0 ≤ length t → length t ≤ 65536
-    → ByTotal 4 (length s) t (four.told a)
+pub section-4-resized : (row : TemplateRow) (s t : List ℕ) (a : Result Product Refusal) → told values_in₄ a ≡ four.outcome₄ t → Follows₄ row s → Resized s t → total₄ row.part (is_timed row) 1 0 0 ≤ length t → length t ≤ 65536
+    → ByTotal 4 (length s) t (told values_in₄ a)
 section-4-resized row s t a e f r enough small = subst (ByTotal 4 (length s) t) (sym e) (resized₄ s t r row f enough small)
 
-pub section-5-resized : (s t : List ℕ) (a : Answer₅) → five.told₅ a ≡ five.outcome₅ t → Follows₅ s → Resized s t → 21 ≤ length t → length t ≤ 65536 → ByTotal 5 (length s) t (five.told₅ a)
+pub section-5-resized : (s t : List ℕ) (a : Result Packing Refusal) → told five.values_in₅ a ≡ five.outcome₅ t → Follows₅ s → Resized s t → 21 ≤ length t → length t ≤ 65536 → ByTotal 5 (length s) t (told five.values_in₅ a)
 section-5-resized s t a e f r enough small = subst (ByTotal 5 (length s) t) (sym e) (resized₅ s t f r enough small)
 
 -- 21 is tested where 11 is: 13 is given only where the section has its total
-pub section-3-points-last : (template : Template₃) (s : List ℕ) (a : Answer₃) → three.told a ≡ three.outcome₃ s → be_at s 13 2 ≡ number_of template → RefusedWith 13 (three.told a) → length s ≡ total template s
-section-3-points-last template s a e names = by (three.told a) (section-3-by-total template s a e names)
+pub section-3-points-last : (template : Template₃) (s : List ℕ) (a : Result Grid Refusal) → told values_in₃ a ≡ three.outcome₃ s → be_at s 13 2 ≡ number_of template → RefusedWith 13 (told values_in₃ a) → length s ≡ total template s
+section-3-points-last template s a e names = by (told values_in₃ a) (section-3-by-total template s a e names)
   where
     by : (o : Outcome) → (NoLower o → ByTotal 3 (total template s) s o) → RefusedWith 13 o → length s ≡ total template s
     by (refused number section place) law h = (law (omega (arith, h))).whole (λ x. omega (arith, h, x)) (λ x. omega (arith, h, x))

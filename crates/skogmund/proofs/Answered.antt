@@ -11,11 +11,12 @@ use lib.IntN.{ℤ}
 use lib.ListN.{length, take, drop}
 use borrow.Author.Tests.{le-ltb, ltb-false, lt-ltb, ltb-true, le-leb, leb-true, eq-eqb, eqb-true, eqb-false}
 use Rattle.octets.specs.Octets.{AllOctets, be_at}
-use Rattle.layout.specs.Outcomes.{refused, refusal}
+use Rattle.layout.specs.Fields.{Value}
+use Rattle.layout.specs.Outcomes.{Outcome, refused, read, refusal}
 use Rattle.layout.specs.declared.Refusal.{Refusal}
 use Rattle.layout.specs.Refusals.{Row, Listed}
 use Rattle.layout.proofs.Ranges.{both_hold}
-use Rattle.layout.proofs.Refusals.{positive, proper}
+use Rattle.layout.proofs.Refusals.{Proper, positive, proper}
 use Rattle.packing.specs.Section7.{packed_octets}
 use Rattle.packing.specs.Unpacking.{unpack_outcome}
 use Rattle.packing.specs.Refused.{unpack_table}
@@ -44,10 +45,9 @@ use Rattle.lent.specs.Lent.{Done, done, done_both, over, with_count, if_room}
 use Rattle.lent.proofs.Answers.{room-left, room-exactly as exactly}
 use Rattle.values.specs.Accepted.{FollowsNumbered}
 use Rattle.values.proofs.AcceptedExactlyWhen.{numbered-5, numbered-7}
-use Rattle.values.proofs.RecordRead.{accepting}
 use Rattle.skogmund.specs.Entries.{code, code_of, coded, no_room, row_unpacked, listing_told}
 use Rattle.skogmund.specs.Parts.{part_told}
-use Rattle.skogmund.specs.Messages.{field_spans, spans_of, room_for, message_told}
+use Rattle.skogmund.specs.Messages.{field_spans, spans_of, room_for, fields_told, message_told}
 use Rattle.skogmund.proofs.Spans.{told_at, told-past}
 use Rattle.skogmund.specs.Shelves.{is_shelf, emptied, joined, kept_in, Room, field_kept, filed_field, Files, FieldTold, queue_kept, filed_queue, QueueTold, slot_numbers, slot_shown}
 
@@ -60,6 +60,11 @@ taken-apart n s p n' s' p' a b c d e = (omega (arith, e), omega (arith, e), omeg
 pub listed-code : (table : List Row) (x : Refusal) → positive table ≡ true → Listed table x → code_of x ≡ 0 → ⊥
 listed-code table x p h e = (proper table (refused x.number x.section x.place) p h).0 (omega (arith, e))
 
+-- and what is 0 is read
+accepting : (o : Outcome) → Proper o → coded o ≡ 0 → (vs : List Value) × (o ≡ read vs)
+accepting (refused number section place) p e = absurd (p.0 (omega (arith, e)))
+accepting (read vs) p e = (vs, refl)
+
 -- ---- unpacking: sections 5 and 7 follow, section 7 has the length that N and the bits give, and the row has N places
 
 pub unpacked-exactly-when : (five seven row : List ℕ) → ((row_unpacked five seven row).answer ≡ 0) ↔ (FollowsNumbered 5 five × FollowsNumbered 7 seven × (length seven ≡ 5 + packed_octets (be_at five 6 4) (be_at five 20 1)) × (length row ≡ be_at five 6 4))
@@ -67,7 +72,7 @@ unfolding row_unpacked
 unpacked-exactly-when five seven row =
     let o = unpack_outcome five seven row in
     let exactly = unpacking five seven row in (
-      (λ e. let f = exactly.0 (accepting o (proper unpack_table o refl (unpack-refuses five seven row)) (omega (arith, e))) in
+      (λ e. let f = exactly.0 (accepting o (proper unpack_table o refl (unpack-refuses five seven row)) e) in
           ((numbered-5 five).1 f.0, (numbered-7 seven).1 f.1.alone, f.1.whole, f.2)),
       (λ f. ap coded (exactly.1 ((numbered-5 five).0 f.0, record { alone = (numbered-7 seven).0 f.1; whole = f.2 }, f.3)).1),
     )
@@ -99,7 +104,7 @@ listed-exactly-when q text places = room-exactly _ _ _ (both-exactly (many-exact
 
 abbrev cut-told : Cut → List ℕ → List ℕ → Bool → Done ℕ (List ℕ × List ℕ)
 cut-told c spans places t =
-    cond t (if_room 0 no_room (room_for spans places) (over spans (spans_of c), over places (c.count ∷ [])) (spans, places)) (done_both (code_of c.refusal) spans places)
+    cond t (fields_told c spans places) (done_both (code_of c.refusal) spans places)
 
 -- the message follows, and there is room for 16 fields and for their count
 abbrev TellsMessage : List ℕ → List ℕ → List ℕ → Type 0

@@ -26,7 +26,7 @@ use Rattle.lent.specs.Lent.{done, Untouched}
 use Rattle.values.specs.Records.{section_outcome}
 use Rattle.lent.proofs.Answers.{room-leaves}
 use Rattle.values.proofs.RecordRead.{row_stays}
-use Rattle.skogmund.specs.Entries.{code_of, coded, no_room, row_unpacked, record_told, fits, listing_told}
+use Rattle.skogmund.specs.Entries.{coded, coded_check, no_room, row_unpacked, record_told, fits, listing_told}
 use Rattle.skogmund.specs.Parts.{part_told}
 use Rattle.skogmund.specs.Messages.{room_for, message_told}
 use Rattle.skogmund.specs.Shelves.{is_shelf, emptied, joined, kept_in, field_kept, filed_field, queue_kept, filed_queue, slot_shown}
@@ -43,7 +43,7 @@ unpack-leaves five seven row h = by (unpack_outcome five seven row) h
 
 pub read-leaves : (section : ℕ) (s : List ℕ) (row : List ℤ) → Untouched 0 row (record_told section s row)
 unfolding record_told
-read-leaves section s row h = row_stays (section_outcome section s) row (λ e. h (ap code_of e))
+read-leaves section s row h = row_stays (section_outcome section s) row (λ e. h (ap coded_check e))
 
 pub part-leaves : (part : ℕ) (s : List ℕ) (k : ℕ) (places : List ℕ) → Untouched 0 places (part_told part s k places)
 unfolding part_told

@@ -1,9 +1,9 @@
 -- What the entries for C answer: a refusal as one number, and what is then in the lent buffers. Each contract is one equation: `done`, of the
 -- answer and of what was lent as it is afterwards, is what a definition makes of what was given.
 -- Assumes nothing.
-use Rattle.std.specs.Prelude.{ℕ, ◌+◌, ◌*◌, ◌^◌, Bool, ◌&&◌, List, [], ◌∷◌, ltb, leb, ℤ, length}
+use Rattle.std.specs.Prelude.{ℕ, ◌+◌, ◌*◌, ◌^◌, Bool, ◌&&◌, List, [], ◌∷◌, ltb, leb, ℤ, length, Ok, Err}
 use Rattle.lent.specs.Lent.{Done, done, over, if_room}
-use Rattle.layout.specs.Outcomes.{Outcome, refusal_of}
+use Rattle.layout.specs.Outcomes.{Outcome, refused, read, Check}
 use Rattle.layout.specs.declared.Refusal.{Refusal}
 use Rattle.packing.specs.Unpacking.{unpack_outcome, row_after}
 use Rattle.report.specs.Texts.{listing}
@@ -18,7 +18,13 @@ code_of x = code x.number x.section x.place
 
 -- of an outcome: 0 where nothing is refused
 abbrev pub coded : Outcome → ℕ
-coded o = code_of (refusal_of o)
+coded (refused number section place) = code number section place
+coded (read vs) = 0
+
+-- the same of a program's check
+abbrev pub coded_check : Check → ℕ
+coded_check (Err x) = code_of x
+coded_check (Ok u) = 0
 
 -- 18: a buffer of another length, or one with too few places
 abbrev pub no_room : ℕ
@@ -29,9 +35,9 @@ no_room = code 18 0 0
 unfoldable pub row_unpacked : List ℕ → List ℕ → List ℕ → Done ℕ (List ℕ)
 row_unpacked five seven row = done (coded (unpack_outcome five seven row)) (row_after five seven row)
 
--- a refusal, or zeros for none, as one number
-abbrev pub in_one_number : {B : Type 0} → Done Refusal B → Done ℕ B
-in_one_number x = done (code_of x.answer) x.lent
+-- a check as one number
+abbrev pub in_one_number : {B : Type 0} → Done Check B → Done ℕ B
+in_one_number x = done (coded_check x.answer) x.lent
 
 unfoldable pub record_told : ℕ → List ℕ → List ℤ → Done ℕ (List ℤ)
 record_told section s row = in_one_number (into_row (section_outcome section s) row)

@@ -33,13 +33,16 @@ spans_of c = in_turn (λ (k : ℕ). field_spans (field_of c k)) 0 c.count
 abbrev pub room_for : List ℕ → List ℕ → Bool
 room_for spans places = leb 160 (length spans) && ltb 0 (length places)
 
--- a refusal, or the spans and how many fields there are
+-- the spans and how many fields there are, if there is room
+abbrev pub fields_told : Cut → List ℕ → List ℕ → Done ℕ (List ℕ × List ℕ)
+fields_told c spans places =
+    if_room 0 no_room (room_for spans places) (over spans (spans_of c), over places (c.count ∷ [])) (spans, places)
+
+-- or a refusal
 unfoldable pub message_told : List ℕ → List ℕ → List ℕ → Done ℕ (List ℕ × List ℕ)
 message_told m spans places =
     let c = read_message m in
-    cond (eqb c.refusal.number 0)
-    (if_room 0 no_room (room_for spans places) (over spans (spans_of c), over places (c.count ∷ [])) (spans, places))
-    (done_both (code_of c.refusal) spans places)
+    cond (eqb c.refusal.number 0) (fields_told c spans places) (done_both (code_of c.refusal) spans places)
 
 -- for the code: no more fields than there are places for, and places that have a number
 pub record Tellable (c : Cut) : Type 0 where

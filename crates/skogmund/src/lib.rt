@@ -8,7 +8,6 @@ ghost use Rattle.layout.specs.Refusals.{last_place};
 ghost use Rattle.skogmund.specs.Entries.{code_of, row_unpacked, record_told, listing_told};
 
 use layout::Refusal;
-use packing::Unpacked;
 
 pub mod messages;
 pub mod part;
@@ -20,18 +19,20 @@ pub(crate) const NO_ROOM: u64 = 18 * 0x100_0000_0000;
 pub fn skogmund_unpack(section5: &[u8], section7: &[u8], row: &mut [u32]) -> u64
     ensures { done result row.new ≡ row_unpacked section5.now section7.now row.old }
 {
-    let answer = packing::unpack(section5, section7, row);
-    let Unpacked::Refused(x) = answer else {
-        return 0;
-    };
-    code(x)
+    match packing::unpack(section5, section7, row) {
+        Ok(_) => 0,
+        Err(x) => code(x),
+    }
 }
 
 // The count and the numbers of a section's record, in the first places.
 pub fn skogmund_read(section: u8, s: &[u8], values: &mut [i64]) -> u64
     ensures { done result values.new ≡ record_told section s.now values.old }
 {
-    code(values::read_into(section, s, values))
+    match values::read_into(section, s, values) {
+        Ok(()) => 0,
+        Err(x) => code(x),
+    }
 }
 
 // No refusal's place is above the last.

@@ -2,11 +2,12 @@
 ghost use Rattle.std.specs.Prelude.{◌≡◌, ◌+◌, ◌≤◌, length};
 ghost use Rattle.std.proofs.lemmas.List.Edits.{sets};
 ghost use Rattle.lent.specs.Lent.{done_both, over};
+ghost use Rattle.message.specs.Walk.{told};
 ghost use Rattle.message.specs.Places.{LowField};
-ghost use Rattle.skogmund.specs.Messages.{field_spans, spans_of, message_told, Tellable};
+ghost use Rattle.skogmund.specs.Messages.{field_spans, spans_of, message_told, fields_told, Tellable};
 
 use crate::part;
-use message::{Cut, Sections};
+use message::{Fields, Sections};
 
 // Of a field five spans of two numbers each; a message has at most 16 fields.
 const OF_A_FIELD: usize = 10;
@@ -17,31 +18,33 @@ const SPANS: usize = 160;
 pub fn skogmund_message(message: &[u8], spans: &mut [u64], count: &mut [u64]) -> u64
     ensures { done_both result spans.new count.new ≡ message_told message.now spans.old count.old }
 {
-    let cut = message::read(message);
-    let refusal = cut.refusal;
-    if refusal.number != 0 {
-        return crate::code(refusal);
+    match message::read(message) {
+        Ok(fields) => tell(spans, count, fields),
+        Err(x) => crate::code(x),
     }
+}
+
+// The same of the fields of an accepted message.
+fn tell(spans: &mut [u64], count: &mut [u64], fields: Fields) -> u64
+    requires { Tellable (told (Ok fields)) }
+    ensures { done_both result spans.new count.new ≡ fields_told (told (Ok fields)) spans.old count.old }
+{
     if spans.len() < SPANS {
         return crate::NO_ROOM;
     }
-    let fields = [cut.count as u64];
-    if !lent::numbers(count, &fields) {
+    if !lent::numbers(count, &[fields.count as u64]) {
         return crate::NO_ROOM;
     }
-    write_spans(spans, cut);
+    write_spans(spans, fields);
     0
 }
 
-fn write_spans(spans: &mut [u64], cut: Cut)
-    requires { Tellable cut × (160 ≤ length spans.old) }
-    ensures { spans.new ≡ over spans.old (spans_of cut) }
+fn write_spans(spans: &mut [u64], fields: Fields)
+    requires { Tellable (told (Ok fields)) × (160 ≤ length spans.old) }
+    ensures { spans.new ≡ over spans.old (spans_of (told (Ok fields))) }
 {
-    let mut k: usize = 0;
-    while k < cut.count {
-        let sections = cut.fields[k];
-        write_field(spans, OF_A_FIELD * k, sections);
-        k += 1;
+    for (k, sections) in fields.found().iter().enumerate() {
+        write_field(spans, OF_A_FIELD * k, *sections);
     }
 }
 

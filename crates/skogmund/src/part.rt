@@ -25,7 +25,7 @@ fn span_of(part: u8, s: &[u8], k: usize) -> Span
         2 => product::range_span(s, k),
         3 => product::member_span(s),
         4 => product::coordinate_span(s),
-        _ => Span::after(0, 0),
+        _ => Span::NOWHERE,
     }
 }
 

@@ -61,7 +61,7 @@ of-each-table P section one three four five seven other =
     either P (eqb section 1) one (either P (eqb section 3) three (either P (eqb section 4) four (either P (eqb section 5) five (either P (eqb section 7) seven other))))
 
 -- none of its numbers is 0
-positive-own : (section : ℕ) → positive (read_table section) ≡ true
+pub positive-own : (section : ℕ) → positive (read_table section) ≡ true
 positive-own section = of-each-table (λ table. positive table ≡ true) section refl refl refl refl refl refl
 
 pub all-proper : (section : ℕ) (s : List ℕ) → Proper (section_outcome section s)

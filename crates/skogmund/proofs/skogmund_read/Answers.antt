@@ -1,23 +1,24 @@
 -- `skogmund_read`: what `read_into` answers, as one number.
 -- Assumes nothing.
 use Prim.Native.Nat.{ℕ}
-use mathlib.Core.Path.{◌≡◌, ap, ◌∙◌}
+use mathlib.Core.Path.{ap, sym, ◌∙◌}
 use mathlib.Core.List.{List}
 use lib.IntN.{ℤ}
-use Rattle.layout.specs.declared.Refusal.{Refusal}
+use Rattle.layout.specs.Outcomes.{Check}
 use Rattle.lent.specs.Lent.{Done, done}
 use Rattle.values.proofs.RecordRead.{place-within}
-use Rattle.skogmund.specs.Entries.{code_of, in_one_number, record_told}
+use Rattle.skogmund.specs.Entries.{in_one_number, record_told}
 use Rattle.skogmund.proofs.skogmund_read.Goals as goal
 
-as_number : {row' : List ℤ} {n : ℕ} {r : Refusal} (x : Done Refusal (List ℤ)) → n ≡ code_of r → done r row' ≡ x → done n row' ≡ in_one_number x
-as_number {row'} x e f = ap (λ (n : ℕ). done n row') e ∙ ap in_one_number f
+pub returns-in-Ok : goal.returns-in-Ok
+unfolding record_told
+returns-in-Ok c = ap (λ (x : Done Check (List ℤ)). in_one_number x) c.in-Ok.ensures
 
 pub code-requires : goal.code-requires
 code-requires c =
     let a = c.args in
-    rw (ap (λ (x : Done Refusal (List ℤ)). x.answer) c.read_into.ensures) (place-within a.section a.s.now a.values.now)
+    place-within a.section a.s.now a.values.now _ (sym (ap (λ (x : Done Check (List ℤ)). x.answer) c.in-Err.ensures))
 
-pub returns : goal.returns
+pub returns-in-Err : goal.returns-in-Err
 unfolding record_told
-returns c = as_number _ c.code.ensures c.read_into.ensures
+returns-in-Err c = ap (λ (n : ℕ). done n _) c.code.ensures ∙ ap (λ (x : Done Check (List ℤ)). in_one_number x) c.in-Err.ensures
