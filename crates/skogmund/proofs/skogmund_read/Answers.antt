@@ -21,4 +21,4 @@ code-requires c =
 
 pub returns-in-Err : goal.returns-in-Err
 unfolding record_told
-returns-in-Err c = ap (λ (n : ℕ). done n _) c.code.ensures ∙ ap (λ (x : Done Check (List ℤ)). in_one_number x) c.in-Err.ensures
+returns-in-Err c = ap (λ (n : ℕ). done n c.read_into.new.values) c.code.ensures ∙ ap (λ (x : Done Check (List ℤ)). in_one_number x) c.in-Err.ensures

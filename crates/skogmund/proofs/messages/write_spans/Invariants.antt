@@ -14,6 +14,6 @@ use Rattle.skogmund.proofs.messages.write_spans.Given as goal
 abbrev pub spans-in : Cut → ℕ → List ℕ
 spans-in cut k = field_spans (field_of cut k)
 
-abbrev pub invariant-loop-sections : goal.invariant-loop-sections
-invariant-loop-sections l = Telling (spans-in (told (Ok l.fn.fields))) (λ k. refl) l.initial.spans l.fn.fields.count l.spans l.sections-index
+abbrev pub invariant-loop-k : goal.invariant-loop-k
+invariant-loop-k l = Telling (spans-in (told (Ok l.fn.fields))) (λ k. refl) l.initial.spans l.fn.fields.count l.spans l.k
 

@@ -7,7 +7,6 @@ unfolding part_span
 returns-in_default c =
     let other = c.in_default.in_default-own.rest in
     simp (ne_eqb _ _ other.0.0.0.1, ne_eqb _ _ other.0.0.1, ne_eqb _ _ other.0.1, ne_eqb _ _ other.1)
-    c.after.ensures
 
 pub returns-in-1 : goal.returns-in-1
 unfolding part_span
