@@ -147,16 +147,7 @@ fn show_product(values: &mut [i64], product: [u8; 27])
     requires { 64 ≤ length values.old }
     ensures { values.new ≡ sets values.old 8 (map pos (part product 1 27)) }
 {
-    let mut i: usize = 0;
-    while i < 27 {
-        values[8 + i] = value_of(product[i]);
-        i += 1;
+    for (i, octet) in product.iter().enumerate() {
+        values[8 + i] = i64::from(*octet);
     }
-}
-
-// A cast in a store to a slice of signed numbers is proved here once.
-fn value_of(octet: u8) -> i64
-    ensures { result ≡ pos octet }
-{
-    octet as i64
 }

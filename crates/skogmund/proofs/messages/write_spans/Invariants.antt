@@ -16,4 +16,3 @@ spans-in cut k = field_spans (field_of cut k)
 
 abbrev pub invariant-loop-k : goal.invariant-loop-k
 invariant-loop-k l = Telling (spans-in (told (Ok l.fn.fields))) (λ k. refl) l.initial.spans l.fn.fields.count l.spans l.k
-

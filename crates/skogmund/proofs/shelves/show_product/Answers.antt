@@ -7,11 +7,10 @@ use mathlib.Core.List.{List, map}
 use lib.IntN.{pos}
 use lib.ListN.{length, length-map, get_or-map}
 use lib.Seq.{sets}
-use mir.Syntax.{w64}
-use mir.ValLaws.{to_z-of_z}
 use borrow.Author.Rules.{rules}
 use Rattle.octets.specs.Octets.{part}
 use Rattle.octets.proofs.Laws.{part-all}
+use Rattle.octets.proofs.Signs.{kept64}
 use Rattle.lent.proofs.Rows.{begins, goes_on, ends}
 use Rattle.skogmund.proofs.shelves.show_product.Goals as goal
 
@@ -24,7 +23,7 @@ loop-i-preserved c =
     let l = c.loop-i in
     let p = c.args.product in
     goes_on _ 8 _ l.values l.i (8 + l.i) _ (pos 0) l.invariant (omega (arith, length-is, length-map p pos)) refl
-    (to_z-of_z w64 _ (record { sfits = c.value_of.type_inv }) ∙ c.value_of.ensures ∙ sym (get_or-map pos p l.i 0))
+    (kept64 _ c.from.type_inv ∙ c.from.ensures ∙ sym (get_or-map pos p l.i 0))
 
 pub returns : goal.returns
 returns c =
