@@ -64,10 +64,6 @@ in_turn-last f n = ap (in_turn f 0) (add-one n) ∙ from_any f 0 n ∙ ap (λ k.
 -- ---- by the values of a list
 
 module _ {A : Type 0} where
-  -- a part that goes on to the end
-  pub to_the_end : (k : ℕ) (l : List A) → take (length l - k) (drop k l) ≡ drop k l
-  to_the_end k l = take_all (length l - k) (drop k l) (omega (arith, length-drop k l))
-
   -- values, and others behind them
   pub sets-both : (vs ws row : List A) (i : ℕ) → sets (sets row i vs) (i + length vs) ws ≡ sets row i (vs ++ ws)
   sets-both [] ws row i = ap (λ (k : ℕ). sets row k ws) (add-zero i)

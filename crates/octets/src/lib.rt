@@ -11,6 +11,7 @@ pub fn part_at<const N: usize>(s: &[u8], at: usize) -> [u8; N]
     ensures { result ≡ part s.now at N }
 {
     let mut part = [0; N];
+    // No slice has an octet of the greatest place, so that a sum that would be above it may stay at it.
     for i in 0..N {
         part[i] = u8_at(s, at.saturating_add(i));
     }
@@ -28,7 +29,8 @@ pub fn u8_at(s: &[u8], at: usize) -> u8
     s.get(at - 1).copied().unwrap_or(0)
 }
 
-// The number in the two octets from octet `at` on.
+// The number in the two octets from octet `at` on. This and the next two are a line each over `part_at`: a caller names how many octets, as
+// document 01 does, and one function over the number's type would ask every caller for it.
 #[tactic(auto, using(crate::proofs::Parts::of_two))]
 pub fn u16_at(s: &[u8], at: usize) -> u16
     ensures { result ≡ be_at s.now at 2 }
@@ -52,7 +54,7 @@ pub fn u64_at(s: &[u8], at: usize) -> u64
     u64::from_be_bytes(part_at(s, at))
 }
 
-// What a number of one octet says by sign and magnitude.
+// What a number of one octet says by sign and magnitude. This and the next two are a line each over `signed`, in the same way.
 #[tactic(auto, using(crate::proofs::Signs::kept32), unfolding(crate::specs::Octets::sign_of))]
 pub fn signed8(raw: u8) -> i32
     ensures { result ≡ sign_of 1 raw }

@@ -1,5 +1,5 @@
 // The record of a section 4. A template is a run of blocks, and each block is read wherever it starts: `end` is the octet after
-// which it stands.
+// which it stands. It is a u16 where more is added to it, so that no sum can wrap, and a u32 elsewhere.
 ghost use Rattle.std.specs.Prelude.{◌≡◌, ◌+◌, ◌∷◌, [], cond};
 ghost use Rattle.layout.specs.Fields.{none, after, values_of};
 ghost use Rattle.product.specs.Blocks.{parameter, process, forecast, scaled, surface, ensemble, cluster, probability, aerosol, interval, parameter_in, process_in, forecast_in, scaled_in, surface_in, ensemble_in, cluster_in, probability_in, aerosol_in, end_in, interval_in, tag_in, ahead_in, behind_in, values_in};

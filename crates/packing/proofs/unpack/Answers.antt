@@ -1,6 +1,6 @@
 -- `unpack`: each way out is one of those of `Unpacks`.
 -- Assumes nothing.
-use Rattle.lent.proofs.Rows.{to_the_end}
+use Rattle.std.proofs.lemmas.List.{take_rest}
 use Rattle.packing.proofs.Unpacks.{five_refused, seven_refused, row_refused, all_written}
 use Rattle.packing.proofs.unpack.Goals as goal
 
@@ -14,4 +14,4 @@ pub returns-then-row-packing : goal.returns-then-row-packing
 returns-then-row-packing c = rw c.of.ensures (row_refused _ _ _ _ c.in_ok-packing.ensures _ c.in_ok-read_data.ensures c.if-row-packing.true)
 
 pub returns : goal.returns
-returns c = all_written _ _ _ _ c.in_ok-packing.ensures _ c.in_ok-read_data.ensures _ c.if-row-packing.false (rw to_the_end at c.unpack.ensures)
+returns c = all_written _ _ _ _ c.in_ok-packing.ensures _ c.in_ok-read_data.ensures _ c.if-row-packing.false (rw take_rest at c.unpack.ensures)
