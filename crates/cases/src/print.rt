@@ -25,6 +25,7 @@ pub(crate) fn signed(out: &mut Output, z: i64) -> io::Result<()> {
     }
 }
 
+// No `Display` of layout's: the core writes a refusal as octets into a lent buffer (`text::refused`), and this is the one place besides.
 pub(crate) fn refusal(out: &mut Output, x: Refusal) -> io::Result<()> {
     write!(out, "refused {} {} {}", x.number, x.section, x.place)
 }

@@ -34,6 +34,7 @@ impl Shelves {
         line: &[u8],
         order: u8,
     ) -> io::Result<()> {
+        // An enum of orders would say the letters once more, and have no name for all the others.
         match order {
             b'e' => self.here = Shelf::empty(),
             b'x' => mem::swap(&mut self.here, &mut self.other),

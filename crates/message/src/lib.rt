@@ -80,7 +80,7 @@ pub fn field_of(fields: Fields, k: usize) -> Sections
     fields.fields[k]
 }
 
-// Where a section stands; one that is none of the five stands nowhere.
+// Where a section stands, asked for by document 01's number, as every refusal and C have it; one that is none of the five stands nowhere.
 #[tactic(auto, unfolding(crate::specs::Messages::numbered))]
 pub fn span_of(sections: Sections, section: u8) -> Span
     ensures { result ≡ span_of sections section }
@@ -191,7 +191,7 @@ fn check_start(message: &[u8]) -> Result<(), Refusal>
 }
 
 // From section to section, from octet 17 on. What stands before the last four octets is lent, so that no section can run into them; `right`
-// says whether they are 7777.
+// says whether they are 7777. The walk goes on by as many octets as the section has, and by no count.
 fn walk_sections(body: &[u8], right: bool) -> Result<Fields, Refusal>
     ensures { told result ≡ judged right 16 start_walk (cut_of section_step (drop 16 body.now)) }
 {

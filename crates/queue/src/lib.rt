@@ -212,7 +212,7 @@ fn file_next(progress: Progress, sent: Record) -> Progress
     Progress { shelf, counts }
 }
 
-// Whether the queue is whole records to its end.
+// Whether the queue is whole records to its end. A `for` would take the walk, and what it leaves is asked for.
 fn well_cut(queue: &[u8]) -> bool
     ensures { result ≡ (cut_of record_step queue.now).whole }
 {

@@ -25,7 +25,8 @@ pub fn queue_buffer() -> [u8; 65537]
     [0; 65537]
 }
 
-// Room for the listing of every queue, and for the explanation of every queue.
+// Room for the listing of every queue, and for the explanation of every queue. One function over the length would leave it to the caller how
+// long a text can get, and so would one over the two `whole_` functions.
 pub fn listing_buffer() -> [u8; 16384]
     ensures { (result ≡ replicate 16384 0) × (16384 ≡ length result) }
 {

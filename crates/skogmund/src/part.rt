@@ -5,7 +5,7 @@ ghost use Rattle.skogmund.specs.Parts.{part_span, first_octet, part_told};
 
 use layout::Span;
 
-// The first octet of a part (from 1) and its length, in the first two places.
+// The first octet of a part (from 1) and its length, in the first two places. C passes the part as a number.
 pub fn skogmund_part(part: u8, s: &[u8], k: u64, span: &mut [u64]) -> u64
     ensures { done result span.new ≡ part_told part s.now k span.old }
 {

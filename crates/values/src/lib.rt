@@ -1,6 +1,8 @@
 // The record of a section as numbers, those of its fields in a lent row. A template's fields are a word, a letter for each:
 //   1 2 4  unsigned, of so many octets     Q R T  the same, or missing
 //   b d    signed, of 2 and 4 octets       A D    signed or missing, of 1 and 4
+// Letters and no enum of kinds: a template is then one word, to be held against its table in one line. A section is asked for by document 01's
+// number, which C passes.
 #![tactic(auto)]
 
 ghost use Rattle.std.specs.Prelude.{◌≡◌, [], ◌∷◌, ◌++◌, ◌<◌, ◌≤◌, length};
