@@ -58,7 +58,12 @@ pub fn read(
 
 // Checks sections 4, 5 and 7 of a field whose sections 1 and 3 are read: a field may have the sections 1 and 3 of the one before it, which need
 // no second reading. `points` is what octets 7-10 of section 3 say.
-pub fn check_later(points: u32, section4: &[u8], section5: &[u8], section7: &[u8]) -> Result<(), Refusal>
+pub fn check_later(
+    points: u32,
+    section4: &[u8],
+    section5: &[u8],
+    section7: &[u8],
+) -> Result<(), Refusal>
     ensures { result ≡ check_of (later_outcome points section4.now section5.now section7.now) }
 {
     product::read(section4)?;
