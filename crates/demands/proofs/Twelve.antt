@@ -12,17 +12,21 @@ use mathlib.Core.Logic.{◌↔◌}
 use mathlib.Core.Bool.{true}
 use mathlib.Core.List.{List, [], ◌∷◌, map}
 use Rattle.octets.specs.Octets.{AllOctets}
+use Rattle.layout.specs.Outcomes.{told}
 use Rattle.layout.specs.Refusals.{Row}
+use Rattle.layout.specs.declared.Refusal.{Refusal}
 use Rattle.layout.proofs.Refusals.{lacks, never-listed}
-use Rattle.grid.specs.Section3.{told, outcome₃}
+use Rattle.grid.specs.Blocks.{values_in}
+use Rattle.grid.specs.Section3.{outcome₃}
 use Rattle.grid.specs.Twelve.{outcome_with_twelve}
-use Rattle.grid.specs.declared.Answer.{Answer}
+use Rattle.grid.specs.declared.blocks.Grid.{Grid}
+use Rattle.std.specs.Prelude.{Result}
 use Rattle.values.specs.Refused.{read_table}
 use Rattle.values.proofs.RecordRead.{of-each-table}
 use Rattle.demands.specs.Tables.{tables, NoneLists}
 
 -- the reader's contract allows the answers that it allowed with 12, and no others (by `same-without-twelve`)
-pub section-3-as-before : (s : List ℕ) (a : Answer) → AllOctets s → (told a ≡ outcome₃ s) ↔ (told a ≡ outcome_with_twelve s)
+pub section-3-as-before : (s : List ℕ) (a : Result Grid Refusal) → AllOctets s → (told values_in a ≡ outcome₃ s) ↔ (told values_in a ≡ outcome_with_twelve s)
 section-3-as-before s a octets = let same = same-without-twelve s octets in ((λ e. e ∙ sym same), (λ e. e ∙ same))
 
 -- ---- "then take 12 out of code, table and answers", "12 is removed for good": no refusal that a table lists is 12, and each entry refuses as its table

@@ -3,7 +3,7 @@
 use Rattle.std.specs.Prelude.{ℕ, List, [], ◌∷◌, not, eqb, Result, Ok, Err}
 use Rattle.octets.specs.Octets.{be_at}
 use Rattle.layout.specs.Fields.{Value}
-use Rattle.layout.specs.Outcomes.{Outcome, refused, read, and_then, reason, first_of, refusal, Check}
+use Rattle.layout.specs.Outcomes.{Outcome, refused, read, and_then, reason, first_of, no_refusal, refusal, Check}
 use Rattle.identification.specs.Section1.{outcome₁, values_in as values_in₁}
 use Rattle.grid.specs.Blocks.{values_in as values_in₃}
 use Rattle.grid.specs.Section3.{outcome₃}
@@ -66,3 +66,12 @@ unfoldable pub told : Result WholeField Refusal → FieldOutcome
 told (Ok x) =
     read_field (values_in₁ x.identification) (values_in₃ x.grid) (values_in₄ x.product) (values_in₅ x.packing)
 told (Err x) = refused_field x.number x.section x.place
+
+-- the refusal of an outcome and of an answer, all 0 where it is read
+abbrev pub field_refusal : FieldOutcome → Refusal
+field_refusal (refused_field number section place) = refusal number section place
+field_refusal (read_field one three four five) = no_refusal
+
+abbrev pub refusal_in : Result WholeField Refusal → Refusal
+refusal_in (Err x) = x
+refusal_in (Ok x) = no_refusal
