@@ -37,6 +37,8 @@ use Rattle.filing.specs.declared.Filed.{Filed}
 -- `report`, `contents` and `shelf_octets::write`: the index that is answered and the lent buffer; `values::read_into` and every entry for C: the
 -- answer and the lent buffers, one or a pair
 pub use Rattle.lent.proofs.Answers.{one_written, one-done}
+-- `message::read`, whose theorems stand together
+pub use Rattle.demands.proofs.Messages.{one-message}
 
 -- ---- the readers, whose contracts say what an answer tells
 
