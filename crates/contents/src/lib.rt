@@ -76,7 +76,7 @@ fn field_lines(out: &mut Writer, message: &[u8], fields: Fields)
     ensures { out.new ≡ writes out.old (field_lines message.now (told (Ok fields))) }
 {
     for k in 0..fields.count {
-        field_line(out, k as u64 + 1, message, message::field_of(fields, k));
+        field_line(out, k as u64 + 1, message, message::field_of(Ok(fields), k));
     }
 }
 

@@ -27,7 +27,7 @@ pub use Rattle.values.proofs.Entries as values-entries
 pub use Rattle.standard.proofs.Entries as standard-entries
 pub use Rattle.skogmund.proofs.Entries as skogmund-entries
 -- ".. and answers ..": for each answer type, any two answers that the contract allows for an input are one, with what was lent.
-pub use Rattle.demands.proofs.OneAnswer.{one-identification, one-grid, one_product, one-packing, one-data, one_field, one-unpacking, one-filing, one_answer, one_number, one-signed, one_time, one_written, one-done}
+pub use Rattle.demands.proofs.OneAnswer.{one-identification, one-grid, one_product, one-packing, one-data, one_field, one-unpacking, one-filing, one_answer, one_number, one-signed, one_time, one_written, one-done, one-message}
 -- ".. or refuses with a number from document 01.": its table lists the number for the section, and the place is 0 except with 8, 11
 -- and 21, and then an octet that a section can have or the one behind its last. (`Refusal::of` and `Refusal::at` make the refusal that a caller
 -- names. `fitting-told` is of all the checks behind the head, as a reader makes them one after the other: `field-told` of each field's,

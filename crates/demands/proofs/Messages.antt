@@ -1,6 +1,7 @@
 -- Demand 2 of whole messages (request 02). The definitions in it: the grammar and `FollowsMessage` (`message/specs/Grammar.antt`), where sections stand
 -- (`Places.antt`, `Covering.antt`), what is wrong at the first place met (`FirstPlace.antt`), and what is answered and shown (`Messages.antt`). The contract
--- of `message::read` is `a ≡ read_message m` (`Entries.antt`), so a theorem with that premise is about every answer `a` that it allows.
+-- of `message::read` is `told r ≡ read_message m` (`Entries.antt`), so a theorem with that premise is about every answer `r` that it allows: `told r` is what
+-- it says of the message, and `section` and `field_of` show what these theorems say, since their contracts are by `told r` too.
 -- Assumes nothing.
 
 -- "section 0 (GRIB, edition 2 in octet 8, total length in 9-16), section 1, then groups ..; then 7777": `IsFrame`, with the marks octet by octet; and
@@ -32,6 +33,7 @@ use mathlib.Core.List.{List, [], ◌∷◌}
 use mathlib.Core.Bool.{false}
 use lib.ListN.{length, take, drop, get_or}
 use borrow.Author.Tests.{ne_eqb}
+use Rattle.std.specs.Prelude.{Result, Ok}
 use Rattle.octets.specs.Octets.{part}
 use Rattle.layout.specs.Spans.{octets_in, Within}
 use Rattle.layout.specs.Refusals.{one_of, Listed}
@@ -39,7 +41,8 @@ use Rattle.layout.specs.declared.Span.{Span}
 use Rattle.layout.specs.declared.Refusal.{Refusal}
 use Rattle.layout.proofs.Refusals.{never-listed}
 use Rattle.field.specs.Accepted.{FollowsField}
-use Rattle.message.specs.Walk.{Cut}
+use Rattle.message.specs.declared.Fields.{Fields}
+use Rattle.message.specs.Walk.{Cut, told}
 use Rattle.message.specs.Grammar.{Group, Five, no_five, Follows, three_after, Parts, behind_zero, fields_in, IsFrame, FollowsMessage}
 use Rattle.message.specs.Messages.{shown_in, field_of, section_in, read_message, Accepted}
 use Rattle.message.specs.Places.{places_in, fields_found, FieldWithin}
@@ -50,6 +53,7 @@ use Rattle.message.proofs.CoveredOnce.{count-is-sevens}
 use Rattle.message.proofs.Views.{sections-by-number, none-past, none-of-five, field-shown, field-follows, field-within}
 use Rattle.message.proofs.FrameAndFields.{one_field}
 use Rattle.message.proofs.RefusalNumbers.{message-refuses, accepted-is-0, few-fields}
+use Rattle.message.proofs.AnswersDetermined.{determined, ok-exactly-when}
 use Rattle.skogmund.specs.Entries.{code_of}
 use Rattle.skogmund.specs.Parts.{first_octet}
 use Rattle.skogmund.specs.Messages.{message_told}
@@ -58,58 +62,62 @@ use Rattle.demands.proofs.Demand2.{octets-told}
 
 -- ---- of every answer that the contract allows
 
-module _ (m : List ℕ) (a : Cut) (said : a ≡ read_message m) where
+module _ (m : List ℕ) (r : Result Fields Refusal) (said : told r ≡ read_message m) where
   -- "accepted exactly when": it follows the grammar, and each field that its groups leave in force follows; the answer's refusal then has the number 0
-  pub message-accepted : Accepted a ↔ FollowsMessage m
+  pub message-accepted : Accepted (told r) ↔ FollowsMessage m
   message-accepted = let w = accepted-exactly-when m in ((λ x. w.0 (subst Accepted said x)), (λ f. subst Accepted (sym said) (w.1 f)))
 
-  pub message-number-0 : Accepted a ↔ (a.refusal.number ≡ 0)
+  -- and in a program's terms: it is Ok
+  pub message-ok : ((f : Fields) × (r ≡ Ok f)) ↔ FollowsMessage m
+  message-ok = ok-exactly-when m r said
+
+  pub message-number-0 : Accepted (told r) ↔ ((told r).refusal.number ≡ 0)
   message-number-0 = subst (λ (c : Cut). Accepted c ↔ (c.refusal.number ≡ 0)) (sym said) (accepted-is-0 m)
 
   -- with a right frame, a message of one group is accepted exactly when its field follows
-  pub message-of-one : (p : Parts) (g : Group) → IsFrame m p → p.groups ≡ g ∷ [] → Accepted a ↔ FollowsField p.one (three_after [] g.opening) g.four g.five g.seven
+  pub message-of-one : (p : Parts) (g : Group) → IsFrame m p → p.groups ≡ g ∷ [] → Accepted (told r) ↔ FollowsField p.one (three_after [] g.opening) g.four g.five g.seven
   message-of-one p g f e = let w = one_field m p g f e in ((λ x. w.0 (subst Accepted said x)), (λ y. subst Accepted (sym said) (w.1 y)))
 
   -- "1 to 16 fields", as many as sections 7
-  pub message-fields-few : Accepted a → (1 ≤ a.count) × (a.count ≤ 16)
+  pub message-fields-few : Accepted (told r) → (1 ≤ (told r).count) × ((told r).count ≤ 16)
   message-fields-few x = (x, subst (λ (c : Cut). c.count ≤ 16) (sym said) (few-fields m))
 
-  pub message-count : (x : FollowsMessage m) → (a.count ≡ sevens_in (behind_zero x.parts)) × (a.count ≡ length x.parts.groups)
+  pub message-count : (x : FollowsMessage m) → ((told r).count ≡ sevens_in (behind_zero x.parts)) × ((told r).count ≡ length x.parts.groups)
   message-count x = let same = ap (λ (c : Cut). c.count) said in (same ∙ count-is-sevens m x, same ∙ count-is m x)
 
   -- "It yields each field's sections as parts of the message, in order": field by field where its sections stand, group after group
-  pub message-fields : (x : FollowsMessage m) → a ≡ fields_found (places_in x.parts)
+  pub message-fields : (x : FollowsMessage m) → told r ≡ fields_found (places_in x.parts)
   message-fields x = said ∙ answer m x
 
   -- a section of the k-th field is that of the k-th group, or, "what isn't repeated staying in force", of the last group before it that has one
   pub message-sections : (x : FollowsMessage m) (k : ℕ) → let f = get_or (fields_in x.parts) k no_five in
-      (section_in m a k 1 ≡ f.one) × (section_in m a k 3 ≡ f.three) × (section_in m a k 4 ≡ f.four) × (section_in m a k 5 ≡ f.five) × (section_in m a k 7 ≡ f.seven)
+      (section_in m (told r) k 1 ≡ f.one) × (section_in m (told r) k 3 ≡ f.three) × (section_in m (told r) k 4 ≡ f.four) × (section_in m (told r) k 5 ≡ f.five) × (section_in m (told r) k 7 ≡ f.seven)
   message-sections x k =
       let f = get_or (fields_in x.parts) k no_five in
       subst (λ (c : Cut). (section_in m c k 1 ≡ f.one) × (section_in m c k 3 ≡ f.three) × (section_in m c k 4 ≡ f.four) × (section_in m c k 5 ≡ f.five) × (section_in m c k 7 ≡ f.seven)) (sym said) (sections-by-number m x k)
 
-  -- past the last field, and so of a refused message, no octets are shown, nor for a number that is none of the five
-  pub message-none : (k n : ℕ) → a.count ≤ k → section_in m a k n ≡ []
-  message-none k n h = none-past m a k n h
+  -- past the last field, and so of a refused message, whose answer has none, no octets are shown, nor for a number that is none of the five
+  pub message-none : (k n : ℕ) → (told r).count ≤ k → section_in m (told r) k n ≡ []
+  message-none k n h = none-past m (told r) k n h
 
-  pub message-none-of-five : (k n : ℕ) → one_of (1 ∷ 3 ∷ 4 ∷ 5 ∷ 7 ∷ []) n ≡ false → section_in m a k n ≡ []
-  message-none-of-five k n h = none-of-five m a k n h
+  pub message-none-of-five : (k n : ℕ) → one_of (1 ∷ 3 ∷ 4 ∷ 5 ∷ 7 ∷ []) n ≡ false → section_in m (told r) k n ≡ []
+  message-none-of-five k n h = none-of-five m (told r) k n h
 
   -- each field that is shown follows, so that what is read of its sections is what their octets mean (`field-by-name`)
-  pub message-field-follows : (k : ℕ) → k < a.count → Follows (shown_in m (field_of a k))
+  pub message-field-follows : (k : ℕ) → k < (told r).count → Follows (shown_in m (field_of (told r) k))
   message-field-follows k h = subst (λ (c : Cut). k < c.count → Follows (shown_in m (field_of c k))) (sym said) (field-follows m k) h
 
   -- where its sections stand, the message has all of their octets
-  pub message-within : (k : ℕ) → FieldWithin (field_of a k) m
+  pub message-within : (k : ℕ) → FieldWithin (field_of (told r) k) m
   message-within k = subst (λ (c : Cut). FieldWithin (field_of c k) m) (sym said) (field-within m k)
 
   -- refusals are those of the table; 17 is none of them
-  pub message-decided : Decided message_table a
+  pub message-decided : Decided message_table (told r)
   message-decided = subst (Decided message_table) (sym said) (message-refuses m)
 
   -- any two answers are one
-  pub one-message : (b : Cut) → b ≡ read_message m → a ≡ b
-  one-message b e = said ∙ sym e
+  pub one-message : (q : Result Fields Refusal) → told q ≡ read_message m → r ≡ q
+  one-message q e = determined m r q said e
 
 pub seventeen-never : (x : Refusal) → Listed message_table x → x.number ≡ 17 → ⊥
 seventeen-never x l e = never-listed 17 message_table x.section refl (rw e at l.listed)

@@ -34,9 +34,11 @@ use Rattle.std.specs.Prelude.{ℤ, Option, Result}
 use Rattle.layout.specs.declared.Refusal.{Refusal}
 use Rattle.filing.specs.declared.Change.{Change}
 use Rattle.filing.specs.declared.Filed.{Filed}
--- `text` and `report`: the index that is answered and the lent buffer; `values::read_into` and every entry for C: the answer and the lent
--- buffers, one or a pair
+-- `report`, `contents` and `shelf_octets::write`: the index that is answered and the lent buffer; `values::read_into` and every entry for C: the
+-- answer and the lent buffers, one or a pair
 pub use Rattle.lent.proofs.Answers.{one_written, one-done}
+-- `message::read`, whose theorems stand together
+pub use Rattle.demands.proofs.Messages.{one-message}
 
 -- ---- the readers, whose contracts say what an answer tells
 
@@ -62,7 +64,8 @@ one_field = determined-field
 pub one-unpacking : (five seven row : List ℕ) (a b : Result ℕ Refusal) (after later : List ℕ) → Unpacks five seven row a after → Unpacks five seven row b later → (a ≡ b) × (after ≡ later)
 one-unpacking = determined-row
 
--- ---- contracts that are equations: octets, layout's checks, card, shelf, filing by value, queue, the octets of a view
+-- ---- contracts that are equations: octets, layout's checks, card, shelf, filing by value, queue, the octets of a view; `text`, which answers nothing, and
+-- the writers of `lent`: the writer that is left
 
 pub one_answer : {A : Type 0} {x : A} (a b : A) → a ≡ x → b ≡ x → a ≡ b
 one_answer a b p q = p ∙ sym q

@@ -30,7 +30,7 @@ pub section-3-as-before : (s : List ℕ) (a : Result Grid Refusal) → AllOctets
 section-3-as-before s a octets = let same = same-without-twelve s octets in ((λ e. e ∙ sym same), (λ e. e ∙ same))
 
 -- ---- "then take 12 out of code, table and answers", "12 is removed for good": no refusal that a table lists is 12, and each entry refuses as its table
--- lists (demand 1). `Refusal::of` and `fitting_refusal` of `layout` hand on the number that their caller names, and no caller here names 12.
+-- lists (demand 1). `Refusal::of` and `Refusal::at` of `layout` hand on the number that their caller names, and no caller here names 12.
 
 none-lists : (number : ℕ) (some : List (List Row)) → map (lacks number) some ≡ map (λ table. true) some → NoneLists number some
 none-lists number [] e = tt

@@ -14,12 +14,15 @@ use Rattle.queue.specs.Refused.{record_table, queue_table}
 use Rattle.values.specs.Refused.{read_table}
 use Rattle.demands.specs.NumbersForC.{room_table, message_for_c_table, slot_table, file_table, file_queue_table}
 
--- the first three go by the section that is asked for; the table of `fitting-told` has the number that a caller names, and is not among these
+-- the first five go by the section that is asked for: what reads it, its head, its opening, a field of it (`field-told`) and its total (`total-told`);
+-- the table of `fitting-told` has the number that a caller names, and is not among these
 abbrev pub tables : ℕ → List (List Row)
 tables asked =
     read_table asked
     ∷ (row asked head_numbers ∷ [])
     ∷ (row asked opening_numbers ∷ [])
+    ∷ (row asked (8 ∷ []) ∷ [])
+    ∷ (row asked (11 ∷ 21 ∷ []) ∷ [])
     ∷ table₁
     ∷ table₃
     ∷ table₄

@@ -13,6 +13,7 @@ pub mod Unambiguous
 pub mod Marks
 pub mod Views
 pub mod RefusalNumbers
+pub mod AnswersDetermined
 pub mod FrameAndFields
 pub mod Entries
 pub mod FirstPlace

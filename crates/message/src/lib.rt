@@ -57,20 +57,24 @@ pub fn read(message: &[u8]) -> Result<Fields, Refusal>
     Ok(fields)
 }
 
-// A section of the k-th field, from 0: those very octets of the message. No octets where it has no such field, and for a section that is
-// none of the five.
+// A section of the k-th field, from 0: those very octets of the message. No octets where the message is refused, where it has no such
+// field, and for a section that is none of the five.
 #[tactic(auto, unfolding(crate::specs::Messages::section_in))]
-pub fn section(message: &[u8], fields: Fields, k: usize, section: u8) -> &[u8]
-    ensures { result.now ≡ section_in message.now (told (Ok fields)) k section }
+pub fn section(message: &[u8], answer: Result<Fields, Refusal>, k: usize, section: u8) -> &[u8]
+    ensures { result.now ≡ section_in message.now (told answer) k section }
 {
-    span_of(field_of(fields, k), section).of(message)
+    span_of(field_of(answer, k), section).of(message)
 }
 
-// Where the k-th field's sections stand, from 0; past the last field, nowhere.
+// Where the k-th field's sections stand, from 0; of a refused message and past the last field, nowhere.
 #[tactic(auto, using(octets::proofs::Lists::unmapped))]
-pub fn field_of(fields: Fields, k: usize) -> Sections
-    ensures { result ≡ field_of (told (Ok fields)) k }
+pub fn field_of(answer: Result<Fields, Refusal>, k: usize) -> Sections
+    ensures { result ≡ field_of (told answer) k }
 {
+    let fields = match answer {
+        Ok(fields) => fields,
+        Err(_) => return no_sections(),
+    };
     if fields.count <= k {
         return no_sections();
     }
