@@ -76,7 +76,9 @@ impl<'a> Iterator for Records<'a> {
 
     ghost remaining = { item_count records_left };
 
+    // Copied into each walk, what is left of the queue need not go through memory; `record_of` is the call.
     #[tactic(auto, using(crate::proofs::Cuts::given, crate::proofs::Cuts::none_given), unfolding(crate::specs::Walks::cut_left))]
+    #[inline(always)]
     fn next(&mut self) -> Option<Record<'a>> {
         let octets = self.rest;
         let head = record_of(octets)?;
