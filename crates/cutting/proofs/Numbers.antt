@@ -52,7 +52,7 @@ shift-before value scale i low (Some x) = by_zero (eqb x.value 0) refl
         rw e (rw some (ap₂ found same count_same))
 
 -- the first group stands before what follows as any does
-first-shifted : (low : ℕ) (r : Option Number) → before low r ≡ shifted low 128 1 r
+pub first-shifted : (low : ℕ) (r : Option Number) → before low r ≡ shifted low 128 1 r
 first-shifted low None = refl
 first-shifted low (Some x) = ap (λ (k : ℕ). cond (eqb x.value 0) None (found (low + 128 * x.value) k)) (omega arith)
 

@@ -28,13 +28,20 @@ pub fn leading_number(octets: &[u8]) -> Option<Number>
 fn groups_of(octets: &[u8]) -> Option<Number>
     ensures { result ≡ groups 5 octets.now }
 {
-    let groups = &octets[..octets.len().min(5)];
-    let mut value: u64 = 0;
-    let mut scale: u64 = 1;
-    for (i, octet) in groups.iter().enumerate() {
-        let group = *octet as u64;
+    let first = *octets.first()? as u64;
+    // Most numbers are one group, for which nothing is summed up.
+    if first < 128 {
+        return Some(Number {
+            value: first,
+            octets: 1,
+        });
+    }
+    let mut value = first - 128;
+    let mut scale: u64 = 128;
+    for i in 1..5 {
+        let group = *octets.get(i)? as u64;
         if group < 128 {
-            if group == 0 && i != 0 {
+            if group == 0 {
                 return None;
             }
             return Some(Number {

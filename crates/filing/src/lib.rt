@@ -42,20 +42,24 @@ pub fn file_by_value<'a>(
 ) -> Filed
     ensures { result ≡ filed_of shelf slot issue section1.now section3.now section4.now section5.now section7.now }
 {
-    let card = card_for(
+    let card = match card_for(
         slot, issue, section1, section3, section4, section5, section7,
-    );
-    match card {
-        Ok(card) => after_put(shelf.put(slot, card)),
-        Err(refusal) => Filed {
-            shelf,
-            answer: Err(refusal),
-        },
-    }
+    ) {
+        Ok(card) => card,
+        Err(refusal) => {
+            return Filed {
+                shelf,
+                answer: Err(refusal),
+            };
+        }
+    };
+    after_put(shelf.put(slot, card))
 }
 
-// The card of a field that can be filed to a slot.
+// The card of a field that can be filed to a slot. It is kept apart from the filing: copied into it, the readers would hide from LLVM that
+// the shelf is written over, which would then be cleared first and copied once more for each field.
 #[tactic(auto, unfolding(crate::specs::Filing::filing_of, crate::specs::Filing::of_field, field::specs::Field::told))]
+#[inline(never)]
 fn card_for(
     slot: usize,
     issue: Option<u32>,

@@ -76,7 +76,9 @@ impl<'a> Iterator for Records<'a> {
 
     ghost remaining = { item_count records_left };
 
+    // Copied into each walk, what is left of the queue need not go through memory; `record_of` is the call.
     #[tactic(auto, using(crate::proofs::Cuts::given, crate::proofs::Cuts::none_given), unfolding(crate::specs::Walks::cut_left))]
+    #[inline(always)]
     fn next(&mut self) -> Option<Record<'a>> {
         let octets = self.rest;
         let head = record_of(octets)?;
@@ -94,8 +96,10 @@ pub struct Ends {
     pub five: usize,
 }
 
-// Where the five sections of a body end, if it is exactly five.
+// Where the five sections of a body end, if it is exactly five. It is kept apart from the filing of a record: copied into it,
+// it would hide from LLVM that the shelf is written over, which would then be cleared first for each record.
 #[tactic(auto, unfolding(crate::specs::Bodies::body_of))]
+#[inline(never)]
 pub fn body_of(octets: &[u8]) -> Option<Ends>
     ensures { result ≡ body_of octets.now }
 {
@@ -201,15 +205,16 @@ fn file_next(progress: Progress, sent: Record) -> Progress
     ensures { result ≡ one_more progress.counts (record_filed progress.shelf (sent_in sent.entry)) }
 {
     let filed = file_record(progress.shelf, sent);
-    let shelf = filed.shelf;
-    let answer = filed.answer;
     let mut counts = progress.counts;
-    match answer {
+    match filed.answer {
         Ok(Change::Kept) => counts.kept += 1,
         Ok(Change::Passed) => counts.passed += 1,
         Err(_) => counts.refused += 1,
     }
-    Progress { shelf, counts }
+    Progress {
+        shelf: filed.shelf,
+        counts,
+    }
 }
 
 // Whether the queue is whole records to its end. A `for` would take the walk, and what it leaves is asked for.

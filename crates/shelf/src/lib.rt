@@ -35,16 +35,21 @@ impl Shelf {
 
     // The slot keeps the greater card. A slot that is not there takes none.
     #[tactic(auto, using(crate::proofs::Laws::put_changed, crate::proofs::Laws::put_unchanged, crate::proofs::Slots::option_less, octets::proofs::Lists::unmapped))]
-    pub fn put(mut self, slot: usize, card: Card) -> PutDone
+    pub fn put(self, slot: usize, card: Card) -> PutDone
         ensures { result ≡ put_of self slot card }
     {
         let new = Some(card);
         let changed = slot < 64 && self.slots[slot] < new;
-        if changed {
-            self.slots[slot] = new;
+        if !changed {
+            return PutDone {
+                shelf: self,
+                changed,
+            };
         }
+        let mut after = self;
+        after.slots[slot] = new;
         PutDone {
-            shelf: self,
+            shelf: after,
             changed,
         }
     }

@@ -14,4 +14,4 @@ pub record Going (s : List ℕ) (value scale i : ℕ) : Type 0 where
   pub so_far : groups 5 s ≡ ahead value scale i (groups (5 - i) (drop i s))
 
 abbrev pub invariant-loop-i : goal.invariant-loop-i
-invariant-loop-i l = Going l.groups l.value l.scale l.i
+invariant-loop-i l = Going l.octets l.value l.scale l.i
