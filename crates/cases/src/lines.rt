@@ -1,5 +1,5 @@
 // Lines of text, with octets in hexadecimal.
-ghost use Rattle.std.specs.Prelude.{◌≤◌};
+ghost use Rattle.std.specs.Prelude.{◌≤◌, vec_len, IfOk};
 
 use std::alloc::{AllocError, Global};
 
@@ -70,7 +70,9 @@ pub(crate) fn digit(c: u8) -> u8
 }
 
 // The octets of a text of pairs of digits, `most` of them at most.
-fn decode(alloc: Global, text: &[u8], most: usize) -> Result<Vec<u8>, AllocError> {
+fn decode(alloc: Global, text: &[u8], most: usize) -> Result<Vec<u8>, AllocError>
+    ensures { IfOk result (λ octets. vec_len octets ≤ most) }
+{
     let (pairs, _) = text.as_chunks::<2>();
     pairs
         .iter()

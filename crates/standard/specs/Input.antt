@@ -9,6 +9,6 @@ abbrev pub Holds : Result ℕ Error → List ℕ → Type 0
 Holds (Ok n) buffer = IsPrefixLen n buffer
 Holds (Err why) buffer = Unit
 
--- the text is that of octets at the start of the buffer, as many as were read
-abbrev pub IsOfRead : (List ℕ → List ℕ) → List ℕ → List ℕ → Type 0
-IsOfRead text_of buffer text = (n : ℕ) × IsPrefixLen n buffer × (text ≡ text_of (take n buffer))
+-- the text is that of the octets that were read: so many, at the start of the buffer
+abbrev pub IsOfRead : (List ℕ → List ℕ) → ℕ → List ℕ → List ℕ → Type 0
+IsOfRead text_of n buffer text = IsPrefixLen n buffer × (text ≡ text_of (take n buffer))

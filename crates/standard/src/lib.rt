@@ -2,7 +2,8 @@
 // is read.
 #![tactic(auto)]
 
-ghost use Rattle.std.specs.Prelude.{◌≡◌, ℕ, List, IfOk};
+ghost use Rattle.std.specs.Prelude.{◌≡◌, ℕ, List};
+ghost use Rattle.io.specs.Counts.{IsPrefixLen};
 ghost use Rattle.standard.specs.Input.{Holds, IsOfRead};
 
 use std::io;
@@ -22,22 +23,23 @@ pub fn run<P: Program<ROOM>, const ROOM: usize>(
     buf: &mut [u8],
     room: &mut [u8; ROOM],
 ) {
-    match answer::<P, ROOM>(rt, buf, room) {
-        Ok(text) => print(rt, text),
+    match read_all(rt, buf) {
+        Ok(n) => print(rt, answer::<P, ROOM>(buf, n, room)),
         Err(why) => read_failed(rt, why),
     }
 }
 
-// The text of what is read.
+// The text of what is read: of the `n` octets that `read_all` says, no more and no fewer. It is given the count, since of a count that it read by
+// itself its contract could not say that it is that of the read.
 fn answer<'a, P: Program<ROOM>, const ROOM: usize>(
-    rt: &HostRuntime,
-    buf: &mut [u8],
+    buf: &[u8],
+    n: usize,
     room: &'a mut [u8; ROOM],
-) -> io::Result<&'a [u8]>
-    ensures { IfOk result (λ text. IsOfRead P.text_of buf.new text.now) }
+) -> &'a [u8]
+    requires { IsPrefixLen n buf.now }
+    ensures { IsOfRead P.text_of n buf.now result.now }
 {
-    let n = read_all(rt, buf)?;
-    Ok(P::whole_text(&buf[..n], room))
+    P::whole_text(&buf[..n], room)
 }
 
 // Reads until the input ends or the buffer is full: how many octets, at the start of the buffer, or why a read failed. A read that fails is told

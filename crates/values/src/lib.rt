@@ -22,7 +22,7 @@ use layout::Refusal;
 const MISSING: i64 = -9223372036854775808;
 
 // The record of a section into the row, or its refusal.
-#[tactic(auto, using(crate::proofs::RecordRead::check_refused, crate::proofs::RecordRead::no_places))]
+#[tactic(auto, using(crate::proofs::RecordRead::no_places))]
 pub fn read_into(section: u8, s: &[u8], values: &mut [i64]) -> Result<(), Refusal>
     ensures { done result values.new ≡ into_row (section_outcome section s.now) values.old }
 {
