@@ -137,6 +137,7 @@ by-records P nothing one_more =
 
 -- a record stands there: it is given, and the rest, as it is lent, is cut behind it
 pub record Given (s : List ℕ) (h : Head) : Type 0 where
+  pub bodied : h.start ≤ h.end
   pub inside : h.end ≤ length s
   pub cut : cut_of record_step s ≡ in_front (record_in s h) (cut_of record_step (take (length s - h.end) (drop h.end s)))
 
@@ -144,7 +145,9 @@ pub given : (s : List ℕ) (h : Head) → record_of s ≡ Some h → Given s h
 unfolding record_step
 given s h e =
     let here : record_step s ≡ item (record_in s h) h.end = ap (record_item s) e in
+    let r = stands s h e in
     record {
+      bodied = omega (arith, r.starts, r.ends);
       inside = (records-advance s _ _ here).inside;
       cut = cut-item record_step records-advance s _ _ here ∙ ap (λ (r : List ℕ). in_front (record_in s h) (cut_of record_step r)) (sym (take_rest s h.end));
     }

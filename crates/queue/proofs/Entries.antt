@@ -4,7 +4,7 @@ use mathlib.Core.Path.{◌≡◌}
 use Rattle.queue.specs.Records.{record_of}
 use Rattle.queue.specs.Bodies.{body_of}
 use Rattle.cutting.specs.Cuts.{cut_of}
-use Rattle.queue.specs.Walks.{cut_left, sent_in}
+use Rattle.queue.specs.Walks.{rest_of, cut_left, sent_in}
 use Rattle.queue.specs.Queues.{checked, record_step, record_filed, queue_filed}
 use Rattle.entry.specs.Entry.{Entry}
 use Rattle.queue.proofs as code
@@ -12,7 +12,7 @@ use Rattle.queue.proofs as code
 pub record-of : Entry code.record_of.Reads.Asked code.record_of.Reads.Learnt code.record_of.Statement.statement (λ given r later. r ≡ record_of given.0.now)
 record-of = record { takes = λ lent given. tt; ends = code.record_of.Met.met; tells = λ lent given r later e. e }
 
-pub records-of : Entry code.Records.of.Reads.Asked code.Records.of.Reads.Learnt code.Records.of.Statement.statement (λ given r later. cut_left r ≡ cut_of record_step given.0.now)
+pub records-of : Entry code.Records.of.Reads.Asked code.Records.of.Reads.Learnt code.Records.of.Statement.statement (λ given r later. (rest_of r ≡ given.0.now) × (cut_left r ≡ cut_of record_step given.0.now))
 records-of = record { takes = λ lent given. tt; ends = code.Records.of.Met.met; tells = λ lent given r later e. e }
 
 pub body-of : Entry code.body_of.Reads.Asked code.body_of.Reads.Learnt code.body_of.Statement.statement (λ given r later. r ≡ body_of given.0.now)

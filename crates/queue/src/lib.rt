@@ -5,7 +5,7 @@ ghost use Rattle.std.specs.Prelude.{◌≡◌, ◌^◌, ◌<◌};
 ghost use Rattle.cutting.specs.Cuts.{cut_of};
 ghost use Rattle.queue.specs.Records.{record_of};
 ghost use Rattle.queue.specs.Bodies.{body_of};
-ghost use Rattle.queue.specs.Walks.{cut_left, sent_in};
+ghost use Rattle.queue.specs.Walks.{rest_of, cut_left, sent_in};
 ghost use Rattle.queue.specs.Queues.{record_filed, record_step, three_together, one_more, records_filed, from_start, checked, queue_filed};
 
 use filing::{Change, Filed};
@@ -60,7 +60,8 @@ impl<'a> Records<'a> {
     // From the start of a queue.
     #[tactic(auto, unfolding(crate::specs::Walks::cut_left))]
     pub fn of(queue: &'a [u8]) -> Records<'a>
-        ensures { cut_left result ≡ cut_of record_step queue.now }
+        ensures all { rest_of result ≡ queue.now }
+        ensures cut { cut_left result ≡ cut_of record_step queue.now }
     {
         Records { rest: queue }
     }

@@ -31,12 +31,12 @@ one_less queue first before after left rest r v e f =
 
 pub loop-sent-init : goal.loop-sent-init
 loop-sent-init c =
-    let all = ap items_of (ap cut_left c.into_iter-sent-iterator.ensures.into_iter_gives ∙ c.of-sent-items.ensures) in
+    let all = ap items_of (ap cut_left c.into_iter-sent-iterator.ensures.into_iter_gives ∙ c.of-sent-items.ensures.cut) in
     record { few = omega (arith, ap length all, records-few c.args.queue.now); so_far = ap (records_filed _) all }
 
 pub loop-sent-preserved : goal.loop-sent-preserved
 loop-sent-preserved c =
-    one_less c.args.queue.now _ c.loop-sent.progress _ _ _ _ c.loop-sent.invariant (ap items_of c.in-Some.ensures.steps) c.file_next-progress.ensures
+    one_less c.args.queue.now _ c.loop-sent.progress _ _ _ _ c.loop-sent.invariant (ap items_of c.in-Some.ensures.steps.3) c.file_next-progress.ensures
 
 pub returns : goal.returns
 unfolding records_filed

@@ -53,7 +53,7 @@ no_line x queue shelf count left none empty all =
 pub loop-i-init-derived : goal.loop-i-init-derived
 loop-i-init-derived c =
     let left = ap (λ (r : _). r.iter) c.into_iter-i-iterator.ensures.into_iter_gives ∙ c.enumerate-i-items.ensures.source in
-    let all = ap items_of (ap cut_left left ∙ c.of.ensures) in
+    let all = ap items_of (ap cut_left left ∙ c.of.ensures.cut) in
     let none = ap (λ (r : _). r.count) c.into_iter-i-iterator.ensures.into_iter_gives ∙ c.enumerate-i-items.ensures.count in
     ((tt, tt, inl (omega (arith, none, ap length all, records-few c.args.queue.now, c.well_formed))), tt)
 
@@ -61,12 +61,12 @@ pub loop-i-init : goal.loop-i-init
 loop-i-init c =
     let left = ap (λ (r : _). r.iter) c.into_iter-i-iterator.ensures.into_iter_gives ∙ c.enumerate-i-items.ensures.source in
     let none = ap (λ (r : _). r.count) c.into_iter-i-iterator.ensures.into_iter_gives ∙ c.enumerate-i-items.ensures.count in
-    no_line _ c.args.queue.now _ _ _ none c.empty-shelf.ensures (ap items_of (ap cut_left left ∙ c.of.ensures))
+    no_line _ c.args.queue.now _ _ _ none c.empty-shelf.ensures (ap items_of (ap cut_left left ∙ c.of.ensures.cut))
 
 pub loop-i-preserved : goal.loop-i-preserved
 loop-i-preserved c =
     let s = c.in-Some.ensures.steps in
-    one_line _ _ _ c.args.queue.now c.loop-i.shelf _ c.loop-i.i-iterator.count _ _ _ _ _ c.loop-i.invariant (ap items_of s.0) s.1 s.2 c.file_record-filed.ensures c.record_line.ensures
+    one_line _ _ _ c.args.queue.now c.loop-i.shelf _ c.loop-i.i-iterator.count _ _ _ _ _ c.loop-i.invariant (ap items_of s.0.3) s.1 s.2 c.file_record-filed.ensures c.record_line.ensures
 
 pub returns : goal.returns
 unfolding record_lines
