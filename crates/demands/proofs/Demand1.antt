@@ -30,9 +30,10 @@ pub use Rattle.skogmund.proofs.Entries as skogmund-entries
 pub use Rattle.demands.proofs.OneAnswer.{one-identification, one-grid, one_product, one-packing, one-data, one_field, one-unpacking, one-filing, one_answer, one_number, one-signed, one_time, one_written, one-done, one-message}
 -- ".. or refuses with a number from document 01.": its table lists the number for the section, and the place is 0 except with 8, 11
 -- and 21, and then an octet that a section can have or the one behind its last. (`Refusal::of` and `Refusal::at` make the refusal that a caller
--- names. `fitting-told` is of all the checks behind the head, as a reader makes them one after the other: `field-told` of each field's,
--- `total-told` of the total's.)
+-- names. `fitting-told` is of all the checks behind the head, as a reader makes them one after the other (`fitting-checked`): `field-told` of each
+-- field's, `total-told` of the total's.)
 pub use Rattle.layout.proofs.Refusals.{head-told, opening-told, fitting-told, field-told, total-told}
+pub use Rattle.layout.proofs.Outcomes.{fitting-checked}
 pub use Rattle.identification.proofs.RefusalNumbers.{identification-refuses}
 pub use Rattle.grid.proofs.RefusalNumbers.{grid-refuses}
 pub use Rattle.product.proofs.RefusalNumbers.{product-refuses}

@@ -33,7 +33,10 @@ pub fn read(section: &[u8]) -> Result<Grid, Refusal>
 }
 
 // The template that a section follows, or why it is refused. The list is summed up only where the section has its total.
+// Copied into its two callers, as its `inline(always)` asks: what it tests of the length then holds where `read` reads the record, and no octet's
+// place is tested again.
 #[tactic(auto, using(crate::proofs::Reading::read_in_steps, crate::proofs::Reading::listed_numbered, layout::proofs::Outcomes::passed_small, layout::proofs::Outcomes::passed_whole))]
+#[inline(always)]
 fn accept(section: &[u8]) -> Result<Template, Refusal>
     ensures outcome { told (λ template. values₃ template section.now) result ≡ outcome₃ section.now }
     ensures named { IfOk result (λ template. template ≡ template_named section.now) }

@@ -1,5 +1,8 @@
 -- What is said of each public entry: it takes every input, it ends, and so much its contract says (`Entry`, of the crate `entry`).
 -- Assumes nothing.
+
+-- of the entries over a width at each of the three, with its number of octets
+pub use Rattle.layout.proofs.AtEachWidth.{u8-or-missing, u16-or-missing, u32-or-missing, signed8-or-missing, signed16-or-missing, signed32-or-missing, present8, present16, present32, nonzero8, nonzero16, nonzero32}
 use mathlib.Core.Path.{◌≡◌}
 use mathlib.Core.List.{Mem}
 use Prim.Native.Nat.{ℕ}

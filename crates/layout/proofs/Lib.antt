@@ -8,4 +8,5 @@ pub mod Untold
 pub mod Shown
 pub mod Allowed
 pub mod Spans
+pub mod AtEachWidth
 pub mod Entries

@@ -149,17 +149,36 @@ allowed_append section (p ∷ ps) b s = by-allowed (all_allowed section ps s) (a
 pub allowed_meet : (section end : ℕ) (a b : List Field) (s : List ℕ) → all_allowed section (after end (a ++ b)) s ≡ and_check (all_allowed section (after end a) s) (all_allowed section (after (end + width_of a) b) s)
 allowed_meet section end a b s = rw after-append (allowed_append section (after end a) (after (end + width_of a) b) s)
 
--- a reader's checks once the template is known: 7, the fields, its own number, the total
-pub template_checks : (section smallest own total : ℕ) (fs : List Field) (s : List ℕ) (o : Outcome) → first_of section (template_reasons smallest (bad_place (after 0 fs) s) own total s) o
-    ≡ cond (ltb (length s) smallest) (refused 7 section 0) (check_then (all_allowed section (after 0 fs) s) (cond (eqb own 0) (check_then (first_refusal section (total_reasons total s)) o) (refused own section 0)))
-unfolding first_of template_reasons fitting_reasons
-template_checks section smallest own total fs s o =
-    ap (cond (ltb (length s) smallest) (refused 7 section 0))
-    (fields_first section 0 1 fs s _ (omega arith) ∙ ap (check_then (all_allowed section (after 0 fs) s)) (by-own (eqb own 0) (first-check section (total_reasons total s) o)))
+-- behind 7: the fields, the section's own number, the total
+fitting_checks : (section own total : ℕ) (fs : List Field) (s : List ℕ) (o : Outcome) → first_of section (fitting_reasons (bad_place (after 0 fs) s) own total s) o
+    ≡ check_then (all_allowed section (after 0 fs) s) (cond (eqb own 0) (check_then (first_refusal section (total_reasons total s)) o) (refused own section 0))
+unfolding first_of fitting_reasons
+fitting_checks section own total fs s o = fields_first section 0 1 fs s _ (omega arith) ∙ ap (check_then (all_allowed section (after 0 fs) s)) (by-own (eqb own 0) (first-check section (total_reasons total s) o))
   where
     by-own : (t : Bool) {p q : Outcome} → p ≡ q → cond (not t) (refused own section 0) p ≡ cond t q (refused own section 0)
     by-own true e = e
     by-own false e = refl
+
+-- the same as a program's check: the readers make these checks one behind the other
+pub fitting-checked : (section own total : ℕ) (fs : List Field) (s : List ℕ) → first_refusal section (fitting_reasons (bad_place (after 0 fs) s) own total s)
+    ≡ and_check (all_allowed section (after 0 fs) s) (cond (eqb own 0) (first_refusal section (total_reasons total s)) (Err (refusal own section 0)))
+unfolding and_check
+fitting-checked section own total fs s =
+    check-first section (fitting_reasons (bad_place (after 0 fs) s) own total s) []
+    ∙ ap check_of (fitting_checks section own total fs s (read []))
+    ∙ by-checks (all_allowed section (after 0 fs) s) (eqb own 0) (first_refusal section (total_reasons total s))
+  where
+    by-checks : (c : Check) (t : Bool) (d : Check) → check_of (check_then c (cond t (check_then d (read [])) (refused own section 0))) ≡ and_check c (cond t d (Err (refusal own section 0)))
+    by-checks (Err x) t d = refl
+    by-checks (Ok u) true (Err x) = refl
+    by-checks (Ok u) true (Ok v) = refl
+    by-checks (Ok u) false d = refl
+
+-- a reader's checks once the template is known: 7, the fields, its own number, the total
+pub template_checks : (section smallest own total : ℕ) (fs : List Field) (s : List ℕ) (o : Outcome) → first_of section (template_reasons smallest (bad_place (after 0 fs) s) own total s) o
+    ≡ cond (ltb (length s) smallest) (refused 7 section 0) (check_then (all_allowed section (after 0 fs) s) (cond (eqb own 0) (check_then (first_refusal section (total_reasons total s)) o) (refused own section 0)))
+unfolding first_of template_reasons
+template_checks section smallest own total fs s o = ap (cond (ltb (length s) smallest) (refused 7 section 0)) (fitting_checks section own total fs s o)
 
 -- ---- what it means that none of them holds
 

@@ -217,7 +217,8 @@ pub fn check_within(s: &[u8], section: u8, at: usize, low: u8, high: u8) -> Resu
     check(section, at, (low..=high).contains(&octets::u8_at(s, at)))
 }
 
-// A number that is not missing.
+// A number that is not missing. Copied into its callers, most of which have tested that its octets are there.
+#[inline(always)]
 pub fn check_present<T: Width>(s: &[u8], section: u8, at: usize) -> Result<(), Refusal>
     ensures { result ≡ if_allowed section at (not_ones T.OCTETS (be_at s.now at T.OCTETS)) }
 {

@@ -5,7 +5,7 @@ use mathlib.Core.List.{List, [], ◌∷◌, ◌++◌}
 use Prim.Native.Nat.{ℕ, zero, suc, ◌+◌, ◌-◌, ◌*◌, ◌^◌, ◌≤◌, ◌<◌, min}
 use native.Mathlib.Omega.{arith}
 use native.Mathlib.Numerals.{add-one}
-use lib.ListN.{length, take, set, get_or}
+use lib.ListN.{length, take, drop, set, get_or}
 use lib.Seq.{take-suc-set}
 use mathlib.Core.Bool.{Bool, true, false}
 use lib.Dec.{leb}
@@ -14,7 +14,7 @@ use Rattle.std.proofs.Math.Nat.{min-eq_left, min-eq_right}
 use mir.Syntax.{w16, w32, w64}
 use Rattle.std.specs.Int.{from_be_bytes}
 use Rattle.octets.specs.Octets.{octet, part, be, be_at}
-use Rattle.octets.proofs.Laws.{part-add, be_at-one, be_at-past}
+use Rattle.octets.proofs.Laws.{part-add, part-take, be_at-one, be_at-past}
 
 -- one more octet
 pub more : (s p : List ℕ) (at i x : ℕ) → i < length p → x ≡ be_at s (at + i) 1 → take i p ≡ part s at i → take (i + 1) (set p i x) ≡ part s at (i + 1)
@@ -51,3 +51,7 @@ saturated s at i n h = by (leb (at + i) n) refl
     by false e =
         let far : n < at + i = leb-false _ _ e in
         ap (λ (k : ℕ). be_at s k 1) (min-eq_right (omega (arith, far))) ∙ be_at-past s n 1 h ∙ sym (be_at-past s (at + i) 1 (omega (arith, h, far)))
+
+-- octets that are all there are a stretch of the list
+pub all_there : (s : List ℕ) (at n : ℕ) → 1 ≤ at → at - 1 + n ≤ length s → take n (drop (at - 1) s) ≡ part s at n
+all_there s at n h there = sym (part-take s (at - 1) n there) ∙ ap (λ (k : ℕ). part s k n) (omega (arith, h))

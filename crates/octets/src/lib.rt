@@ -5,9 +5,24 @@
 ghost use Rattle.std.specs.Prelude.{◌≡◌, cond, ◌-◌, ◌*◌, ◌^◌, ◌<◌, ◌≤◌, ltb, pos, neg_ℤ, take, drop};
 ghost use Rattle.octets.specs.Octets.{part, be_at, sign_of, real_year};
 
-// The N octets from octet `at` on, of which those that are not there are 0.
-#[tactic(auto, using(crate::proofs::Parts::more), unfolding(crate::specs::Octets::part))]
+// The N octets from octet `at` on, of which those that are not there are 0. Nearly always all of them are there: they are then taken at once.
+#[tactic(auto, using(crate::proofs::Parts::all_there))]
 pub fn part_at<const N: usize>(s: &[u8], at: usize) -> [u8; N]
+    ensures { result ≡ part s.now at N }
+{
+    if at == 0 || s.len() < at || s.len() - (at - 1) < N {
+        return part_by_octet(s, at);
+    }
+    let mut part = [0; N];
+    part.copy_from_slice(&s[at - 1..at - 1 + N]);
+    part
+}
+
+// The same octet by octet, in a function of its own: it is seldom called, and would be copied to wherever a number is read.
+#[cold]
+#[inline(never)]
+#[tactic(auto, using(crate::proofs::Parts::more), unfolding(crate::specs::Octets::part))]
+fn part_by_octet<const N: usize>(s: &[u8], at: usize) -> [u8; N]
     ensures { result ≡ part s.now at N }
 {
     let mut part = [0; N];

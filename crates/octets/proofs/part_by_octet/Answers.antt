@@ -3,7 +3,7 @@ use lib.ListN.{length-set}
 use mathlib.Core.Path.{◌∙◌}
 use native.Mathlib.Omega.{arith}
 use Rattle.octets.proofs.Parts.{more, saturated}
-use Rattle.octets.proofs.part_at.Goals as goal
+use Rattle.octets.proofs.part_by_octet.Goals as goal
 
 pub loop-i-preserved : goal.loop-i-preserved
 loop-i-preserved g c =
