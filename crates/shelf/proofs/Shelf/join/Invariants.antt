@@ -6,4 +6,4 @@ use Rattle.shelf.proofs.Pointwise.{up_to}
 use Rattle.shelf.proofs.Shelf.join.Given as goal
 
 abbrev pub invariant-loop-i : goal.invariant-loop-i
-invariant-loop-i l = l.self.slots ≡ up_to greater_slot l.i l.initial.self.slots l.other.slots
+invariant-loop-i l = l.self.slots ≡ up_to greater_slot l.i l.initial.self.slots l.fn.other.slots
